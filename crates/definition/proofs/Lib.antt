@@ -1,0 +1,4 @@
+pub mod Choices
+pub mod Running
+pub mod Computes
+pub mod Session
