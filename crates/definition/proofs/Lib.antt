@@ -1,4 +1,5 @@
 pub mod Choices
 pub mod Running
+pub mod Codecs
 pub mod Computes
 pub mod Session
