@@ -2,4 +2,5 @@ pub mod Choices
 pub mod Running
 pub mod Codecs
 pub mod Computes
+pub mod Examples
 pub mod Session

@@ -1,0 +1,374 @@
+-- What each return of the codecs' functions says, over plain variables.
+use mathlib.Core.Path.{_≡_, refl, sym, ap, ap₂, _∙_, subst}
+use mathlib.Core.Bool.{Bool, true, false}
+use mathlib.Core.List.{List, [], _∷_, _++_}
+use mathlib.Core.Option.{Option, none, some}
+use Prim.Native.Nat.{ℕ, suc, _+_, _*_, _-_, _<_, _≤_}
+use native.Mathlib.Omega.{arith}
+use native.Mathlib.Nat.{le-of-lt, zero-add}
+use native.Mathlib.Numerals.{add-one}
+use lib.ListN.{length, getD, take, drop, set, replicate, length-append, length-drop, length-set, length-replicate, getD-replicate, drop-of-length-le}
+use lib.Seq.{drop-cons, take-all, length-take-le, ext-getD, getD-drop}
+use lib.Dec.{eqb, ltb}
+use borrow.Author.Tests.{ne-eqb, eq-eqb, lt-ltb, le-ltb, lt-leb, le-leb}
+use Rattle.definition.specs.Tools.{Bytes, pick, opt}
+use Rattle.definition.specs.Codec.{Op, Put, Delete, opKey, opValue, opByte, reserved, longKey, longValue, keyTooLong, valueTooLong, keyRead, keyIn, keyLength, keyWrite, keyBytes, order, be16At, markerOf, entryOf, entryValue, keyPart, valuePart, opFault, encode, encodeInto, laid, laidIf}
+use Rattle.definition.proofs.Choices.{picked, passed, pick-yes, pick-no, opt-none, opt-some}
+use Rattle.definition.specs.declared.Fault.{Fault}
+use Rattle.definition.specs.declared.Fault.the-variants.{Serialization, CapacityExceeded, ReservedKey}
+use Rattle.definition.specs.declared.CapacityKind.the-variants as C
+use Rattle.definition.specs.declared.SerializationKind.the-variants.{BufferTooSmall, InvalidData}
+use Rattle.definition.specs.declared.CodecAnswer.{CodecAnswer}
+use Rattle.definition.specs.declared.CodecAnswer.the-variants.{Len, Refused}
+use Rattle.definition.specs.declared.Order.the-variants.{Less, Equal, Greater}
+use Rattle.definition.specs.declared.Marker.the-variants.{Count, Unread}
+use Rattle.definition.specs.declared.Entry.{Entry}
+use Rattle.definition.specs.declared.Entry.the-variants as E
+use Rattle.codec.specs.declared.Checked.{Checked}
+use Rattle.codec.specs.declared.Checked.the-variants as K
+use Rattle.codec.specs.declared.OpKind.{OpKind}
+use Rattle.codec.specs.declared.OpKind.the-variants as P
+use Rattle.codec.specs.Forms.{written, padded, KeyInside, KeyLens, KeyReads, MarkerReads, Inside, EntryReads, checkedOf, Bounded, Checks, entryBytes, entryAnswer, EntryWrites, opAs, Encodes}
+use Rattle.codec.proofs.Copy.{written-then, set-written}
+
+-- ---- keys
+
+pub reserved-none : (k : Bytes) → length k ≡ 0 → false ≡ reserved k
+unfolding reserved
+reserved-none [] h = refl
+reserved-none (b ∷ k) h = absurd (omega arith)
+
+pub reserved-some : (k : Bytes) → (length k ≡ 0 → ⊥) → eqb (getD k 0 0) 0 ≡ reserved k
+unfolding reserved
+reserved-some [] h = absurd (h refl)
+reserved-some (b ∷ k) h = refl
+
+pub length-none : (s : Bytes) → length s ≡ 0 → Refused (Serialization BufferTooSmall) ≡ keyLength s
+unfolding keyLength
+length-none [] e = refl
+length-none (n ∷ s) e = absurd (omega (arith, e))
+
+pub length-some : (s : Bytes) {n : ℕ} → (length s ≡ 0 → ⊥) → n ≡ getD s 0 0 → Len (n + 1) ≡ keyLength s
+unfolding keyLength
+length-some [] h e = absurd (h refl)
+length-some (b ∷ s) h e = ap (λ x. Len (x + 1)) e
+
+pub read-none : (s : Bytes) → length s ≡ 0 → KeyLens s (Refused (Serialization BufferTooSmall))
+unfolding keyRead
+read-none [] e = record { is = refl; inside = tt }
+read-none (n ∷ s) e = absurd (omega (arith, e))
+
+module _ {n : ℕ} where
+  pub read-long : (s : Bytes) → (length s ≡ 0 → ⊥) → n ≡ getD s 0 0 → 96 < n → KeyLens s (Refused (Serialization InvalidData))
+  unfolding keyRead
+  read-long [] h e l = absurd (h refl)
+  read-long (b ∷ s) h e l = let z : 96 < b = omega arith in record { is = picked _ _ _ (lt-ltb _ _ z) refl; inside = tt }
+
+  pub read-few : (s : Bytes) → (length s ≡ 0 → ⊥) → n ≡ getD s 0 0 → n ≤ 96 → length s - 1 < n → KeyLens s (Refused (Serialization InvalidData))
+  unfolding keyRead
+  read-few [] h e l m = absurd (h refl)
+  read-few (b ∷ s) h e l m =
+      let z : b ≤ 96 = omega arith in
+      let y : length s < b = omega arith in
+      record { is = passed _ _ _ (le-ltb _ _ z) (picked _ _ _ (lt-ltb _ _ y) refl); inside = tt }
+
+  pub read-whole : (s : Bytes) → (length s ≡ 0 → ⊥) → n ≡ getD s 0 0 → n ≤ 96 → n ≤ length s - 1 → KeyLens s (Len (n + 1))
+  unfolding keyRead
+  read-whole [] h e l m = absurd (h refl)
+  read-whole (b ∷ s) h e l m =
+      let z : b ≤ 96 = omega arith in
+      let y : b ≤ length s = omega arith in
+      record {
+        is = passed _ _ _ (le-ltb _ _ z) (passed _ _ _ (le-ltb _ _ y) (ap (λ x. Len (x + 1)) e));
+        inside = (omega arith, omega arith, omega arith);
+      }
+
+module _ (k : Bytes) (room : ℕ) where
+  pub write-long : 96 < length k → Refused (keyTooLong k) ≡ keyWrite k room
+  unfolding keyWrite longKey
+  write-long h = picked _ _ _ (lt-ltb _ _ h) refl
+
+  pub write-short : length k ≤ 96 → room < length k + 1 → Refused (Serialization BufferTooSmall) ≡ keyWrite k room
+  unfolding keyWrite longKey
+  write-short h l = passed _ _ _ (le-ltb _ _ h) (picked _ _ _ (lt-ltb _ _ l) refl)
+
+  pub write-fits : length k ≤ 96 → length k + 1 ≤ room → Len (length k + 1) ≡ keyWrite k room
+  unfolding keyWrite longKey
+  write-fits h l = passed _ _ _ (le-ltb _ _ h) (passed _ _ _ (le-ltb _ _ l) refl)
+
+-- the order from place i on, a byte at a time
+module _ (a b : Bytes) (i : ℕ) where
+  pub order-out : i < length a → length b ≤ i → Greater ≡ order (drop i a) (drop i b)
+  unfolding order
+  order-out h k = rw (drop-cons a i 0 h, drop-of-length-le b k)
+
+  pub order-less : i < length a → i < length b → getD a i 0 < getD b i 0 → Less ≡ order (drop i a) (drop i b)
+  unfolding order
+  order-less h k l = rw (drop-cons a i 0 h, drop-cons b i 0 k) (picked _ _ _ (lt-ltb _ _ l) refl)
+
+  pub order-greater : i < length a → i < length b → getD b i 0 < getD a i 0 → Greater ≡ order (drop i a) (drop i b)
+  unfolding order
+  order-greater h k l =
+      rw (drop-cons a i 0 h, drop-cons b i 0 k) (passed _ _ _ (le-ltb _ _ (le-of-lt l)) (picked _ _ _ (lt-ltb _ _ l) refl))
+
+  pub order-next : i < length a → i < length b → getD b i 0 ≤ getD a i 0 → getD a i 0 ≤ getD b i 0
+      → order (drop (i + 1) a) (drop (i + 1) b) ≡ order (drop i a) (drop i b)
+  unfolding order
+  order-next h k l m =
+      rw (drop-cons a i 0 h, drop-cons b i 0 k, add-one) (passed _ _ _ (le-ltb _ _ l) (passed _ _ _ (le-ltb _ _ m) refl))
+
+  pub order-ends : length a ≤ i → i < length b → Less ≡ order (drop i a) (drop i b)
+  unfolding order
+  order-ends h k = rw (drop-of-length-le a h, drop-cons b i 0 k)
+
+  pub order-same : length a ≤ i → length b ≤ i → Equal ≡ order (drop i a) (drop i b)
+  unfolding order
+  order-same h k = rw (drop-of-length-le a h, drop-of-length-le b k)
+
+-- ---- markers
+
+module _ (v : Bytes) where
+  pub marker-long : (length v ≡ 4 → ⊥) → MarkerReads v Unread
+  unfolding markerOf
+  marker-long h = record { is = passed _ _ _ (ne-eqb _ _ h) refl; short = tt }
+
+  module _ (h : length v ≡ 4) {a b : ℕ} (ea : a ≡ be16At v 0) (eb : b ≡ be16At v 2) where
+    pub marker-torn : (b ≡ 65535 - a → ⊥) → MarkerReads v Unread
+    unfolding markerOf
+    marker-torn n =
+        let z : be16At v 2 ≡ 65535 - be16At v 0 → ⊥ = λ e. n (eb ∙ e ∙ ap (λ x. 65535 - x) (sym ea)) in
+        record { is = picked _ _ _ (eq-eqb _ _ h) (passed _ _ _ (ne-eqb _ _ z) refl); short = tt }
+
+    pub marker-counts : a < 65536 → b ≡ 65535 - a → MarkerReads v (Count a)
+    unfolding markerOf
+    marker-counts l e =
+        let z : be16At v 2 ≡ 65535 - be16At v 0 = sym eb ∙ e ∙ ap (λ x. 65535 - x) ea in
+        record { is = picked _ _ _ (eq-eqb _ _ h) (picked _ _ _ (eq-eqb _ _ z) (ap Count ea)); short = l }
+
+-- ---- entries
+
+module _ (v : Bytes) where
+  pub entry-head : length v < 2 → EntryReads v E.Corrupt
+  unfolding entryOf
+  entry-head h = record { is = picked _ _ _ (lt-ltb _ _ h) refl; inside = tt }
+
+  module _ (h1 : 2 ≤ length v) {k : ℕ} (ek : k ≡ getD v 1 0) where
+    -- the tests passed so far, then what is left of them
+    past-head : {e : Entry} → e ≡ pick (ltb (length v) (2 + getD v 1 0)) E.Corrupt
+        (pick (ltb 96 (getD v 1 0)) E.Corrupt (pick (reserved (take (getD v 1 0) (drop 2 v))) E.Corrupt
+        (pick (eqb (getD v 0 0) 0) (pick (longValue (entryValue v)) E.Corrupt (E.Put (getD v 1 0))) (pick (eqb (getD v 0 0) 1) (E.Delete (getD v 1 0)) E.Corrupt))))
+        → e ≡ entryOf v
+    unfolding entryOf
+    past-head e = passed _ _ _ (le-ltb _ _ h1) e
+
+    pub entry-short : length v < 2 + k → EntryReads v E.Corrupt
+    entry-short h = let z : length v < 2 + getD v 1 0 = omega arith in record { is = past-head (picked _ _ _ (lt-ltb _ _ z) refl); inside = tt }
+
+    module _ (h2 : 2 + k ≤ length v) where
+      within : 2 + getD v 1 0 ≤ length v
+      within = omega arith
+
+      pub entry-long : 96 < k → EntryReads v E.Corrupt
+      entry-long h =
+          let z : 96 < getD v 1 0 = omega arith in
+          record { is = past-head (passed _ _ _ (le-ltb _ _ within) (picked _ _ _ (lt-ltb _ _ z) refl)); inside = tt }
+
+      module _ (h3 : k ≤ 96) {r : Bool} (er : r ≡ reserved (take (2 + k - 2) (drop 2 v))) where
+        is-reserved : reserved (take (getD v 1 0) (drop 2 v)) ≡ r
+        is-reserved = let e : getD v 1 0 ≡ 2 + k - 2 = omega arith in ap (λ n. reserved (take n (drop 2 v))) e ∙ sym er
+
+        past-key : {e : Entry} → e ≡ pick (reserved (take (getD v 1 0) (drop 2 v))) E.Corrupt
+            (pick (eqb (getD v 0 0) 0) (pick (longValue (entryValue v)) E.Corrupt (E.Put (getD v 1 0))) (pick (eqb (getD v 0 0) 1) (E.Delete (getD v 1 0)) E.Corrupt))
+            → e ≡ entryOf v
+        past-key e = let z : getD v 1 0 ≤ 96 = omega arith in past-head (passed _ _ _ (le-ltb _ _ within) (passed _ _ _ (le-ltb _ _ z) e))
+
+        pub entry-reserved : r ≡ true → EntryReads v E.Corrupt
+        entry-reserved h = record { is = past-key (picked _ _ _ (is-reserved ∙ h) refl); inside = tt }
+
+        module _ (h4 : r ≡ false) where
+          value-long : length (drop (2 + getD v 1 0) v) ≡ length v - (2 + k)
+          value-long = length-drop (2 + getD v 1 0) v ∙ ap (λ x. length v - (2 + x)) (sym ek)
+
+          pub entry-value : getD v 0 0 ≡ 0 → 256 < length v - (2 + k) → EntryReads v E.Corrupt
+          unfolding longValue
+          entry-value o h =
+              let z : 256 < length (drop (2 + getD v 1 0) v) = omega (arith, value-long) in
+              record { is = past-key (passed _ _ _ (is-reserved ∙ h4) (picked _ _ _ (eq-eqb _ _ o) (picked _ _ _ (lt-ltb _ _ z) refl))); inside = tt }
+
+          pub entry-put : getD v 0 0 ≡ 0 → length v - (2 + k) ≤ 256 → EntryReads v (E.Put k)
+          unfolding longValue
+          entry-put o h =
+              let z : length (drop (2 + getD v 1 0) v) ≤ 256 = omega (arith, value-long) in
+              record {
+                is = past-key (passed _ _ _ (is-reserved ∙ h4) (picked _ _ _ (eq-eqb _ _ o) (passed _ _ _ (le-ltb _ _ z) (ap E.Put ek))));
+                inside = (h2, h3, omega arith);
+              }
+
+          pub entry-delete : (getD v 0 0 ≡ 0 → ⊥) → getD v 0 0 ≡ 1 → EntryReads v (E.Delete k)
+          entry-delete n o =
+              record {
+                is = past-key (passed _ _ _ (is-reserved ∙ h4) (passed _ _ _ (ne-eqb _ _ n) (picked _ _ _ (eq-eqb _ _ o) (ap E.Delete ek))));
+                inside = (h2, h3);
+              }
+
+          pub entry-unknown : (getD v 0 0 ≡ 0 → ⊥) → (getD v 0 0 ≡ 1 → ⊥) → EntryReads v E.Corrupt
+          entry-unknown n o =
+              record { is = past-key (passed _ _ _ (is-reserved ∙ h4) (passed _ _ _ (ne-eqb _ _ n) (passed _ _ _ (ne-eqb _ _ o) refl))); inside = tt }
+
+-- the parts of an entry that was decoded
+module _ (v : Bytes) {e : Entry} {n : ℕ} (r : EntryReads v e) where
+  pub put-inside : e ≡ E.Put n → (2 + n ≤ length v) × (n ≤ 96) × (length v ≤ 258 + n)
+  put-inside q = subst (Inside v) q (r .inside)
+
+  pub delete-inside : e ≡ E.Delete n → (2 + n ≤ length v) × (n ≤ 96)
+  delete-inside q = subst (Inside v) q (r .inside)
+
+  pub put-key : e ≡ E.Put n → take (2 + n - 2) (drop 2 v) ≡ keyPart (entryOf v) v
+  unfolding keyPart
+  put-key q = let z : 2 + n - 2 ≡ n = omega arith in ap (λ k. take k (drop 2 v)) z ∙ ap (λ x. keyPart x v) (sym q ∙ r .is)
+
+  pub delete-key : e ≡ E.Delete n → take (2 + n - 2) (drop 2 v) ≡ keyPart (entryOf v) v
+  unfolding keyPart
+  delete-key q = let z : 2 + n - 2 ≡ n = omega arith in ap (λ k. take k (drop 2 v)) z ∙ ap (λ x. keyPart x v) (sym q ∙ r .is)
+
+  pub put-value : e ≡ E.Put n → take (length v - (2 + n)) (drop (2 + n) v) ≡ valuePart (entryOf v) v
+  unfolding valuePart
+  put-value q = take-all (length v - (2 + n)) (drop (2 + n) v) (simp length-drop (omega arith)) ∙ ap (λ x. valuePart x v) (sym q ∙ r .is)
+
+  pub delete-value : e ≡ E.Delete n → [] ≡ valuePart (entryOf v) v
+  unfolding valuePart
+  delete-value q = ap (λ x. valuePart x v) (sym q ∙ r .is)
+
+module _ (v : Bytes) {e : Entry} (r : EntryReads v e) where
+  pub corrupt-key : e ≡ E.Corrupt → [] ≡ keyPart (entryOf v) v
+  unfolding keyPart
+  corrupt-key q = ap (λ x. keyPart x v) (sym q ∙ r .is)
+
+  pub corrupt-value : e ≡ E.Corrupt → [] ≡ valuePart (entryOf v) v
+  unfolding valuePart
+  corrupt-value q = ap (λ x. valuePart x v) (sym q ∙ r .is)
+
+-- ---- an operation's tests
+
+module _ (k v : Bytes) where
+  pub op-long : 96 < length k → Checks k v (K.Refused (keyTooLong k))
+  unfolding opFault opKey opValue checkedOf longKey
+  op-long h = record { is = ap checkedOf (picked _ _ _ (lt-ltb _ _ h) refl); bounds = tt }
+
+  module _ (h1 : length k ≤ 96) {r : Bool} (er : r ≡ reserved k) where
+    pub op-reserved : r ≡ true → Checks k v (K.Refused ReservedKey)
+    unfolding opFault opKey opValue checkedOf longKey
+    op-reserved h = record { is = ap checkedOf (passed _ _ _ (le-ltb _ _ h1) (picked _ _ _ (sym er ∙ h) refl)); bounds = tt }
+
+    module _ (h2 : r ≡ false) where
+      pub op-value : 256 < length v → Checks k v (K.Refused (valueTooLong v))
+      unfolding opFault opKey opValue checkedOf longKey longValue
+      op-value h =
+          record { is = ap checkedOf (passed _ _ _ (le-ltb _ _ h1) (passed _ _ _ (sym er ∙ h2) (picked _ _ _ (lt-ltb _ _ h) refl))); bounds = tt }
+
+      pub op-fine : length v ≤ 256 → Checks k v K.Fine
+      unfolding opFault opKey opValue checkedOf longKey longValue
+      op-fine h =
+          record { is = ap checkedOf (passed _ _ _ (le-ltb _ _ h1) (passed _ _ _ (sym er ∙ h2) (passed _ _ _ (le-ltb _ _ h) refl))); bounds = (h1, h) }
+
+module _ {k v : Bytes} {r : Checked} (c : Checks k v r) where
+  pub fine-bounds : r ≡ K.Fine → (length k ≤ 96) × (length v ≤ 256)
+  fine-bounds q = subst (Bounded k v) q (c .bounds)
+
+  none-of : (o : Option Fault) → K.Fine ≡ checkedOf o → o ≡ none
+  unfolding checkedOf
+  none-of none e = refl
+  none-of (some f) e = let z : _≡_ {A = ℕ} 0 1 = cc in absurd (omega arith)
+
+  some-of : (o : Option Fault) (f : Fault) → K.Refused f ≡ checkedOf o → o ≡ some f
+  unfolding checkedOf
+  some-of none f e = let z : _≡_ {A = ℕ} 0 1 = cc in absurd (omega arith)
+  some-of (some g) f e = let z : f ≡ g = cc in ap some (sym z)
+
+  pub fine-none : r ≡ K.Fine → opFault (Put k v) ≡ none
+  fine-none q = none-of (opFault (Put k v)) (sym q ∙ c .is)
+
+  pub refused-some : {f : Fault} → r ≡ K.Refused f → opFault (Put k v) ≡ some f
+  refused-some {f} q = some-of (opFault (Put k v)) f (sym q ∙ c .is)
+
+-- ---- what is written
+
+drop-replicate : (n m x : ℕ) → drop n (replicate m x) ≡ replicate (m - n) x
+drop-replicate n m x = ext-getD 0 _ _ (simp (length-drop, length-replicate))
+    (λ i h. let l : i < m - n = omega (arith, length-drop n (replicate m x), length-replicate m x) in getD-drop n (replicate m x) i 0 ∙ getD-replicate m (n + i) x 0 (omega arith) ∙ sym (getD-replicate (m - n) i x 0 l))
+
+pub pad-is : (k : Bytes) → written (replicate 96 0) 0 k ≡ padded k
+unfolding written padded
+pad-is k = ap (λ (l : Bytes). k ++ l) (ap (λ n. drop n (replicate 96 0)) (zero-add (length k)) ∙ drop-replicate (length k) 96 0)
+
+pub key-refused : (s : Bytes) {r : CodecAnswer} {f : Fault} → KeyLens s r → r ≡ Refused f → KeyReads s r (replicate 96 0) 0
+unfolding keyIn padded
+key-refused s {r} {f} h q =
+    let e : keyIn r s ≡ [] = ap (λ x. keyIn x s) q in
+    record { is = h .is; key = ap padded (sym e); long = ap length (sym e) }
+
+pub key-inside : (s : Bytes) {r : CodecAnswer} {n : ℕ} → KeyLens s r → r ≡ Len n → (1 ≤ n) × (n ≤ 97) × (n ≤ length s)
+key-inside s h q = subst (KeyInside s) q (h .inside)
+
+pub key-whole : (s bytes : Bytes) {r : CodecAnswer} {n : ℕ} → KeyLens s r → r ≡ Len n → bytes ≡ padded (take (n - 1) (drop 1 s)) → KeyReads s (Len n) bytes (n - 1)
+unfolding keyIn
+key-whole s bytes {r} {n} h q e =
+    let b = key-inside s h q in
+    record { is = sym q ∙ h .is; key = e; long = sym (length-take-le (n - 1) (drop 1 s) (simp length-drop (omega arith))) }
+
+pub laid-written : (e out : Bytes) → written out 0 e ≡ laid e out
+unfolding written laid
+laid-written e out = ap (λ n. e ++ drop n out) (zero-add (length e))
+
+pub key-laid : (k out : Bytes) → length k + 1 ≤ length out → written (set out 0 (length k)) 1 k ≡ laid (keyBytes k) out
+unfolding keyBytes
+key-laid k out h =
+    ap (λ x. written x 1 k) (set-written out 0 (length k) (omega arith))
+    ∙ written-then out 0 (length k ∷ []) k (omega arith) ∙ laid-written (length k ∷ k) out
+
+pub entry-laid : (op : ℕ) (k v out r1 r2 : Bytes) → 2 + length k + length v ≤ length out
+    → r1 ≡ written (set (set out 0 op) 1 (length k)) 2 k → r2 ≡ written r1 (2 + length k) v → r2 ≡ laid (entryBytes op k v) out
+unfolding entryBytes
+entry-laid op k v out r1 r2 h e1 e2 =
+    let a : set (set out 0 op) 1 (length k) ≡ written out 0 (op ∷ length k ∷ []) =
+          set-written (set out 0 op) 1 (length k) (simp length-set (omega arith)) ∙ ap (λ x. written x 1 (length k ∷ [])) (set-written out 0 op (omega arith))
+          ∙ written-then out 0 (op ∷ []) (length k ∷ []) (omega arith) in
+    let b : r1 ≡ written out 0 (op ∷ length k ∷ k) = e1 ∙ ap (λ x. written x 2 k) a ∙ written-then out 0 (op ∷ length k ∷ []) k (omega arith) in
+    let z : 2 + length k ≡ 0 + length (op ∷ length k ∷ k) = omega arith in
+    e2 ∙ ap₂ (λ x n. written x n v) b z ∙ written-then out 0 (op ∷ length k ∷ k) v (omega arith) ∙ laid-written (op ∷ length k ∷ (k ++ v)) out
+
+-- ---- an entry
+
+length-entry : (op : ℕ) (k v : Bytes) → length (entryBytes op k v) ≡ 2 + length k + length v
+unfolding entryBytes
+length-entry op k v = omega (arith, length-append k v)
+
+module _ (op : ℕ) (k v out : Bytes) where
+  pub entry-refused : {r : Checked} {f : Fault} → Checks k v r → r ≡ K.Refused f → EntryWrites op k v out out (Refused f)
+  unfolding entryAnswer laidIf
+  entry-refused c q = record { is = sym (opt-some _ _ (refused-some c q)); made = refl }
+
+  module _ {r : Checked} (c : Checks k v r) (q : r ≡ K.Fine) where
+    pub entry-full : length out < 2 + length k + length v → EntryWrites op k v out out (Refused (Serialization BufferTooSmall))
+    unfolding entryAnswer laidIf
+    entry-full h =
+        let z : length out < length (entryBytes op k v) = omega (arith, length-entry op k v) in
+        record { is = sym (opt-none _ _ (fine-none c q) ∙ pick-yes _ _ (lt-ltb _ _ z)); made = refl }
+
+    pub entry-made : (r1 r2 : Bytes) → 2 + length k + length v ≤ length out
+        → r1 ≡ written (set (set out 0 op) 1 (length k)) 2 k → r2 ≡ written r1 (2 + length k) v → EntryWrites op k v out r2 (Len (2 + length k + length v))
+    unfolding entryAnswer laidIf
+    entry-made r1 r2 h e1 e2 =
+        let z : length (entryBytes op k v) ≤ length out = omega (arith, length-entry op k v) in
+        record {
+          is = ap Len (sym (length-entry op k v)) ∙ sym (opt-none _ _ (fine-none c q) ∙ pick-no _ _ (le-ltb _ _ z));
+          made = entry-laid op k v out r1 r2 h e1 e2;
+        }
+
+pub put-encodes : {kind : OpKind} {k v out after : Bytes} {r : CodecAnswer} → kind ≡ P.Put → EntryWrites 0 k v out after r → Encodes (opAs kind k v) out after r
+unfolding opAs encodeInto encode entryAnswer entryBytes opKey opValue opByte
+put-encodes {kind} {k} {v} {out} {after} {r} q h = subst (λ x. Encodes (opAs x k v) out after r) (sym q) (record { is = h .is; made = h .made })
+
+pub delete-encodes : {kind : OpKind} {k out after : Bytes} (v : Bytes) {r : CodecAnswer} → kind ≡ P.Delete → EntryWrites 1 k [] out after r → Encodes (opAs kind k v) out after r
+unfolding opAs encodeInto encode entryAnswer entryBytes opFault opKey opValue opByte
+delete-encodes {kind} {k} {out} {after} v {r} q h = subst (λ x. Encodes (opAs x k v) out after r) (sym q) (record { is = h .is; made = h .made })

@@ -1,0 +1,327 @@
+// Document 01, "Codecs": keys and their order, the marker, the journal key and the journal entry. Every function takes any input and
+// equals its definition in `definition/specs/Codec`.
+use definition::CapacityKind;
+use definition::CodecAnswer;
+use definition::Entry;
+use definition::Fault;
+use definition::Marker;
+use definition::Order;
+use definition::SerializationKind;
+ghost use mathlib.Core.Path.{_≡_};
+ghost use Prim.Native.Nat.{_+_, _*_, _≤_, _<_};
+ghost use lib.ListN.{length};
+ghost use Rattle.definition.specs.Codec;
+ghost use Rattle.definition.specs.Codec.{keyWrite, keyBytes, keyLength, be16At, journalKey, marker, markerKey, entryOf, keyPart, valuePart, laidIf};
+ghost use Rattle.codec.specs.Forms.{written, padded, KeyLens, KeyReads, MarkerReads, EntryReads, EntryWrites, Encodes, Checks, opAs};
+
+// What an operation of a batch is.
+pub enum OpKind {
+    Put,
+    Delete,
+}
+
+// What the tests of an operation say.
+pub enum Checked {
+    Fine,
+    Refused(Fault),
+}
+
+// A key by value: its bytes, then zeros.
+pub struct Key {
+    pub bytes: [u8; 96],
+    pub len: usize,
+}
+
+// A key that was read, with the bytes it took; no key where reading refused.
+pub struct KeyRead {
+    pub answer: CodecAnswer,
+    pub key: Key,
+}
+
+fn wide(x: u8) -> usize
+    ensures { λ r. ⌜ (r ≡ x) × (r < 256) ⌝ }
+{
+    x as usize
+}
+
+// Copies src into out, from `at` on.
+pub fn copy_at(out: &mut [u8], at: usize, src: &[u8])
+    requires { ⌜ at + length (now src) ≤ length (now out) ⌝ }
+    ensures { λ _. ⌜ now (out .exit) ≡ written (now (out .entry)) at (now (src .entry)) ⌝ }
+{
+    let mut j: usize = 0;
+    while j < src.len() {
+        out[at + j] = src[j];
+        j += 1;
+    }
+}
+
+// A key's bytes, filled up with zeros.
+fn pad(key: &[u8]) -> [u8; 96]
+    requires { ⌜ length (now key) ≤ 96 ⌝ }
+    ensures { λ r. ⌜ r ≡ padded (now (key .entry)) ⌝ }
+{
+    let mut bytes = [0u8; 96];
+    copy_at(&mut bytes, 0, key);
+    bytes
+}
+
+impl Key {
+    pub const MAX_LEN: usize = 96;
+
+    // How many bytes the key at the front of a buffer takes, or why there is none.
+    fn read_len(buffer: &[u8]) -> CodecAnswer
+        ensures { λ r. ⌜ KeyLens (now (buffer .entry)) r ⌝ }
+    {
+        if buffer.len() == 0 {
+            return CodecAnswer::Refused(Fault::Serialization(SerializationKind::BufferTooSmall));
+        }
+        let n = wide(buffer[0]);
+        if Key::MAX_LEN < n {
+            return CodecAnswer::Refused(Fault::Serialization(SerializationKind::InvalidData));
+        }
+        if buffer.len() - 1 < n {
+            return CodecAnswer::Refused(Fault::Serialization(SerializationKind::InvalidData));
+        }
+        CodecAnswer::Len(n + 1)
+    }
+
+    // Reads the key at the front of a buffer.
+    pub fn read(buffer: &[u8]) -> KeyRead
+        ensures { λ r. ⌜ KeyReads (now (buffer .entry)) (r .answer) (r .key .bytes) (r .key .len) ⌝ }
+    {
+        let answer = Key::read_len(buffer);
+        let CodecAnswer::Len(n) = answer else {
+            return KeyRead {
+                answer: answer,
+                key: Key {
+                    bytes: [0u8; 96],
+                    len: 0,
+                },
+            };
+        };
+        let bytes = pad(&buffer[1..n]);
+        KeyRead {
+            answer: answer,
+            key: Key {
+                bytes: bytes,
+                len: n - 1,
+            },
+        }
+    }
+
+    // Writes a key to the front of a buffer; a refusal leaves the buffer as it was.
+    pub fn write(key: &[u8], out: &mut [u8]) -> CodecAnswer
+        ensures { λ r. ⌜ (r ≡ keyWrite (now (key .entry)) (length (now (out .entry)))) × (now (out .exit) ≡ laidIf r (keyBytes (now (key .entry))) (now (out .entry))) ⌝ }
+    {
+        let n = key.len();
+        if Key::MAX_LEN < n {
+            return CodecAnswer::Refused(Fault::CapacityExceeded(CapacityKind::Key, n, Key::MAX_LEN));
+        }
+        if out.len() < n + 1 {
+            return CodecAnswer::Refused(Fault::Serialization(SerializationKind::BufferTooSmall));
+        }
+        out[0] = n as u8;
+        copy_at(out, 1, key);
+        CodecAnswer::Len(n + 1)
+    }
+
+    // How many bytes a key takes, by its length byte alone.
+    pub fn get_len(buffer: &[u8]) -> CodecAnswer
+        ensures { λ r. ⌜ r ≡ keyLength (now (buffer .entry)) ⌝ }
+    {
+        if buffer.len() == 0 {
+            return CodecAnswer::Refused(Fault::Serialization(SerializationKind::BufferTooSmall));
+        }
+        CodecAnswer::Len(wide(buffer[0]) + 1)
+    }
+
+    // Which of two keys comes first: unsigned bytes from the left, a proper prefix being smaller.
+    pub fn order(a: &[u8], b: &[u8]) -> Order
+        ensures { λ r. ⌜ r ≡ Codec.order (now (a .entry)) (now (b .entry)) ⌝ }
+    {
+        let mut i: usize = 0;
+        while i < a.len() {
+            if b.len() <= i {
+                return Order::Greater;
+            }
+            if a[i] < b[i] {
+                return Order::Less;
+            }
+            if b[i] < a[i] {
+                return Order::Greater;
+            }
+            i += 1;
+        }
+        if i < b.len() {
+            return Order::Less;
+        }
+        Order::Equal
+    }
+}
+
+// Whether a key is a bookkeeping key.
+pub fn reserved(key: &[u8]) -> bool
+    ensures { λ r. ⌜ r ≡ Codec.reserved (now (key .entry)) ⌝ }
+{
+    if key.len() == 0 {
+        return false;
+    }
+    key[0] == 0
+}
+
+pub fn marker_key() -> [u8; 2]
+    ensures { λ r. ⌜ r ≡ markerKey ⌝ }
+{
+    [0, 0x63]
+}
+
+pub fn journal_key(index: u16) -> [u8; 4]
+    ensures { λ r. ⌜ r ≡ journalKey index ⌝ }
+{
+    [0, 0x6a, (index / 256) as u8, (index % 256) as u8]
+}
+
+// A marker: the count and its complement, so that a torn one does not agree with itself.
+pub fn encode_marker(count: u16) -> [u8; 4]
+    ensures { λ r. ⌜ r ≡ marker count ⌝ }
+{
+    let complement = 65535 - count;
+    [
+        (count / 256) as u8,
+        (count % 256) as u8,
+        (complement / 256) as u8,
+        (complement % 256) as u8,
+    ]
+}
+
+// Two bytes, the higher first.
+fn pair(bytes: &[u8], at: usize) -> usize
+    requires { ⌜ at + 2 ≤ length (now bytes) ⌝ }
+    ensures { λ r. ⌜ (r ≡ be16At (now (bytes .entry)) at) × (r < 65536) ⌝ }
+{
+    wide(bytes[at]) * 256 + wide(bytes[at + 1])
+}
+
+// The count that a marker's bytes say, if they are a marker.
+pub fn decode_marker(bytes: &[u8]) -> Marker
+    ensures { λ r. ⌜ MarkerReads (now (bytes .entry)) r ⌝ }
+{
+    if bytes.len() != 4 {
+        return Marker::Unread;
+    }
+    let count = pair(bytes, 0);
+    let check = pair(bytes, 2);
+    if check != 65535 - count {
+        return Marker::Unread;
+    }
+    Marker::Count(count)
+}
+
+// What a journal entry's bytes say, tested in document 01's order.
+pub fn decode_entry(entry: &[u8]) -> Entry
+    ensures { λ r. ⌜ EntryReads (now (entry .entry)) r ⌝ }
+{
+    if entry.len() < 2 {
+        return Entry::Corrupt;
+    }
+    let n = wide(entry[1]);
+    let to = 2 + n;
+    if entry.len() < to {
+        return Entry::Corrupt;
+    }
+    if Key::MAX_LEN < n {
+        return Entry::Corrupt;
+    }
+    if reserved(&entry[2..to]) {
+        return Entry::Corrupt;
+    }
+    let op = entry[0];
+    if op == 0 {
+        let value = entry.len() - to;
+        if 256 < value {
+            return Entry::Corrupt;
+        }
+        return Entry::Put(n);
+    }
+    if op == 1 {
+        return Entry::Delete(n);
+    }
+    Entry::Corrupt
+}
+
+// The key part of a journal entry; an empty part where the entry is corrupt.
+pub fn key_part(entry: &[u8]) -> &[u8]
+    ensures { λ r. ⌜ now r ≡ keyPart (entryOf (now (entry .entry))) (now (entry .entry)) ⌝ }
+{
+    match decode_entry(entry) {
+        Entry::Put(n) => {
+            let to = 2 + n;
+            &entry[2..to]
+        }
+        Entry::Delete(n) => {
+            let to = 2 + n;
+            &entry[2..to]
+        }
+        Entry::Corrupt => &entry[0..0],
+    }
+}
+
+// The value part of a journal entry; an empty part where there is none.
+pub fn value_part(entry: &[u8]) -> &[u8]
+    ensures { λ r. ⌜ now r ≡ valuePart (entryOf (now (entry .entry))) (now (entry .entry)) ⌝ }
+{
+    match decode_entry(entry) {
+        Entry::Put(n) => {
+            let from = 2 + n;
+            &entry[from..]
+        }
+        Entry::Delete(n) => &entry[0..0],
+        Entry::Corrupt => &entry[0..0],
+    }
+}
+
+// The batch's tests of an operation with this key and value, in their order; a delete has the empty value.
+pub fn check_op(key: &[u8], value: &[u8]) -> Checked
+    ensures { λ r. ⌜ Checks (now (key .entry)) (now (value .entry)) r ⌝ }
+{
+    if Key::MAX_LEN < key.len() {
+        return Checked::Refused(Fault::CapacityExceeded(CapacityKind::Key, key.len(), Key::MAX_LEN));
+    }
+    if reserved(key) {
+        return Checked::Refused(Fault::ReservedKey);
+    }
+    if 256 < value.len() {
+        return Checked::Refused(Fault::CapacityExceeded(CapacityKind::Value, value.len(), 256));
+    }
+    Checked::Fine
+}
+
+// Tests and writes an entry of these parts; a refusal leaves the buffer as it was.
+fn encode_entry(op: u8, key: &[u8], value: &[u8], out: &mut [u8]) -> CodecAnswer
+    ensures { λ r. ⌜ EntryWrites op (now (key .entry)) (now (value .entry)) (now (out .entry)) (now (out .exit)) r ⌝ }
+{
+    if let Checked::Refused(fault) = check_op(key, value) {
+        return CodecAnswer::Refused(fault);
+    }
+    let to = 2 + key.len();
+    let n = to + value.len();
+    if out.len() < n {
+        return CodecAnswer::Refused(Fault::Serialization(SerializationKind::BufferTooSmall));
+    }
+    out[0] = op;
+    out[1] = key.len() as u8;
+    copy_at(out, 2, key);
+    copy_at(out, to, value);
+    CodecAnswer::Len(n)
+}
+
+// Encodes an operation; a refusal leaves the buffer as it was. The value of a delete is not looked at.
+pub fn encode_op(kind: OpKind, key: &[u8], value: &[u8], out: &mut [u8]) -> CodecAnswer
+    ensures { λ r. ⌜ Encodes (opAs kind (now (key .entry)) (now (value .entry))) (now (out .entry)) (now (out .exit)) r ⌝ }
+{
+    match kind {
+        OpKind::Put => encode_entry(0, key, value, out),
+        OpKind::Delete => encode_entry(1, key, &value[0..0], out),
+    }
+}
