@@ -331,8 +331,8 @@ pub entry-laid : (op : ℕ) (k v out r1 r2 : Bytes) → 2 + length k + length v 
 unfolding entryBytes
 entry-laid op k v out r1 r2 h e1 e2 =
     let a : set (set out 0 op) 1 (length k) ≡ written out 0 (op ∷ length k ∷ []) =
-          set-written (set out 0 op) 1 (length k) (simp length-set (omega arith)) ∙ ap (λ x. written x 1 (length k ∷ [])) (set-written out 0 op (omega arith))
-          ∙ written-then out 0 (op ∷ []) (length k ∷ []) (omega arith) in
+    set-written (set out 0 op) 1 (length k) (simp length-set (omega arith)) ∙ ap (λ x. written x 1 (length k ∷ [])) (set-written out 0 op (omega arith))
+    ∙ written-then out 0 (op ∷ []) (length k ∷ []) (omega arith) in
     let b : r1 ≡ written out 0 (op ∷ length k ∷ k) = e1 ∙ ap (λ x. written x 2 k) a ∙ written-then out 0 (op ∷ length k ∷ []) k (omega arith) in
     let z : 2 + length k ≡ 0 + length (op ∷ length k ∷ k) = omega arith in
     e2 ∙ ap₂ (λ x n. written x n v) b z ∙ written-then out 0 (op ∷ length k ∷ k) v (omega arith) ∙ laid-written (op ∷ length k ∷ (k ++ v)) out

@@ -116,7 +116,11 @@ impl Key {
     {
         let n = key.len();
         if Key::MAX_LEN < n {
-            return CodecAnswer::Refused(Fault::CapacityExceeded(CapacityKind::Key, n, Key::MAX_LEN));
+            return CodecAnswer::Refused(Fault::CapacityExceeded(
+                CapacityKind::Key,
+                n,
+                Key::MAX_LEN,
+            ));
         }
         if out.len() < n + 1 {
             return CodecAnswer::Refused(Fault::Serialization(SerializationKind::BufferTooSmall));
@@ -286,7 +290,11 @@ pub fn check_op(key: &[u8], value: &[u8]) -> Checked
     ensures { λ r. ⌜ Checks (now (key .entry)) (now (value .entry)) r ⌝ }
 {
     if Key::MAX_LEN < key.len() {
-        return Checked::Refused(Fault::CapacityExceeded(CapacityKind::Key, key.len(), Key::MAX_LEN));
+        return Checked::Refused(Fault::CapacityExceeded(
+            CapacityKind::Key,
+            key.len(),
+            Key::MAX_LEN,
+        ));
     }
     if reserved(key) {
         return Checked::Refused(Fault::ReservedKey);

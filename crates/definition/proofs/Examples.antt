@@ -48,19 +48,19 @@ examples = record {
 }
 
 as-document-01-says : examples ≡ record {
-      key-ab = 2 ∷ 0x61 ∷ 0x62 ∷ [];
-      key-empty = 0 ∷ [];
-      read-nothing = Refused (Serialization BufferTooSmall);
-      read-97 = Refused (Serialization InvalidData);
-      length-c8 = Len 201;
-      marker-2 = 0 ∷ 2 ∷ 0xff ∷ 0xfd ∷ [];
-      marker-fc = Unread;
-      marker-short = Unread;
-      journal-258 = 0 ∷ 0x6a ∷ 1 ∷ 2 ∷ [];
-      entry-put = 0 ∷ 1 ∷ 0x61 ∷ 0x32 ∷ [];
-      entry-delete = 1 ∷ 1 ∷ 0x62 ∷ [];
-      entry-02 = none;
-      order-61 = Less;
-    }
+  key-ab = 2 ∷ 0x61 ∷ 0x62 ∷ [];
+  key-empty = 0 ∷ [];
+  read-nothing = Refused (Serialization BufferTooSmall);
+  read-97 = Refused (Serialization InvalidData);
+  length-c8 = Len 201;
+  marker-2 = 0 ∷ 2 ∷ 0xff ∷ 0xfd ∷ [];
+  marker-fc = Unread;
+  marker-short = Unread;
+  journal-258 = 0 ∷ 0x6a ∷ 1 ∷ 2 ∷ [];
+  entry-put = 0 ∷ 1 ∷ 0x61 ∷ 0x32 ∷ [];
+  entry-delete = 1 ∷ 1 ∷ 0x62 ∷ [];
+  entry-02 = none;
+  order-61 = Less;
+}
 unfolding examples computes
 as-document-01-says = refl
