@@ -1,6 +1,9 @@
 pub mod Choices
 pub mod Running
 pub mod Codecs
+pub mod Records
+pub mod Items
+pub mod Image
 pub mod Computes
 pub mod Examples
 pub mod Session

@@ -1,0 +1,130 @@
+// The item calls of document 01: the fault script over the region. Each spends one step of the script, and is equal to the run of its one-call
+// program in `definition/specs/Program`.
+use definition::Fault;
+use definition::Step;
+use definition::Verdict;
+use region::Next;
+use region::Spot;
+use region::Stored;
+ghost use mathlib.Core.Path.{_≡_};
+ghost use mathlib.Core.Bool.{true};
+ghost use lib.ListN.{length};
+ghost use Rattle.definition.specs.Region.{item, good, allowed};
+ghost use Rattle.definition.specs.Program;
+ghost use Rattle.definition.specs.Program.{flat};
+ghost use Rattle.items.specs.Forms.{Ran, Fetches, Visits, missedOf, unmetOf};
+
+// What a store, a removal or an opened iteration answers.
+pub enum ItemAnswer {
+    Done(Step),
+    Failed(Fault, Step),
+}
+
+// What a fetch answers: where the value stands.
+pub enum FetchAnswer {
+    Got(Spot, Step),
+    Missed(Fault, Step),
+}
+
+// What the next step of an iteration answers: the item at its place, or that none is left.
+pub enum NextAnswer {
+    Met(Next, Step),
+    Unmet(Fault, Step),
+}
+
+// Stores an item. Where the call fails with its effect, the effect is done where it fits.
+pub fn store(region: &mut [u8], script: &[u8], key: &[u8], value: &[u8], step: Step) -> ItemAnswer
+    requires { ⌜ good (now region) ≡ true ⌝ }
+    requires { ⌜ allowed (length (now key)) (length (now value)) ≡ true ⌝ }
+    ensures { λ r. ⌜ Ran (Program.store flat (item (now (key .entry)) (now (value .entry)))) (now (region .entry)) (now (script .entry)) step (now (region .exit)) r ⌝ }
+{
+    let next = script::stepped(script, step);
+    let verdict = script::fate(script, step);
+    let Verdict::Fail(fault, effect) = verdict else {
+        let stored = region::store(region, key, value);
+        let Stored::Done = stored else {
+            return ItemAnswer::Failed(Fault::FullStorage, next);
+        };
+        return ItemAnswer::Done(next);
+    };
+    if effect {
+        region::store(region, key, value);
+        return ItemAnswer::Failed(fault, next);
+    }
+    ItemAnswer::Failed(fault, next)
+}
+
+// Removes the item with a key; an absent key is a success.
+pub fn remove(region: &mut [u8], script: &[u8], key: &[u8], step: Step) -> ItemAnswer
+    requires { ⌜ good (now region) ≡ true ⌝ }
+    ensures { λ r. ⌜ Ran (Program.remove flat (now (key .entry))) (now (region .entry)) (now (script .entry)) step (now (region .exit)) r ⌝ }
+{
+    let next = script::stepped(script, step);
+    let verdict = script::fate(script, step);
+    let Verdict::Fail(fault, effect) = verdict else {
+        region::remove(region, key);
+        return ItemAnswer::Done(next);
+    };
+    if effect {
+        region::remove(region, key);
+        return ItemAnswer::Failed(fault, next);
+    }
+    ItemAnswer::Failed(fault, next)
+}
+
+// A fetch's answer where its fate is not to pass.
+fn missed(verdict: Verdict, next: Step) -> FetchAnswer
+    ensures { λ r. ⌜ r ≡ missedOf verdict next ⌝ }
+{
+    match verdict {
+        Verdict::Fail(fault, _) => FetchAnswer::Missed(fault, next),
+        Verdict::Pass => FetchAnswer::Got(Spot::Nothing, next),
+    }
+}
+
+// Where the value under a key stands.
+pub fn fetch(region: &[u8], script: &[u8], key: &[u8], step: Step) -> FetchAnswer
+    ensures { λ r. ⌜ Fetches (now (key .entry)) (now (region .entry)) (now (script .entry)) step r ⌝ }
+{
+    let next = script::stepped(script, step);
+    let verdict = script::fate(script, step);
+    let Verdict::Pass = verdict else {
+        return missed(verdict, next);
+    };
+    FetchAnswer::Got(region::fetch(region, key), next)
+}
+
+// Opens an iteration, which then goes from place 0.
+pub fn iterate_open(region: &[u8], script: &[u8], step: Step) -> ItemAnswer
+    requires { ⌜ good (now region) ≡ true ⌝ }
+    ensures { λ r. ⌜ Ran (Program.step flat) (now (region .entry)) (now (script .entry)) step (now (region .entry)) r ⌝ }
+{
+    let next = script::stepped(script, step);
+    let verdict = script::fate(script, step);
+    let Verdict::Fail(fault, _) = verdict else {
+        return ItemAnswer::Done(next);
+    };
+    ItemAnswer::Failed(fault, next)
+}
+
+// An iteration's answer where its fate is not to pass.
+fn unmet(verdict: Verdict, next: Step) -> NextAnswer
+    ensures { λ r. ⌜ r ≡ unmetOf verdict next ⌝ }
+{
+    match verdict {
+        Verdict::Fail(fault, _) => NextAnswer::Unmet(fault, next),
+        Verdict::Pass => NextAnswer::Met(Next::Nothing, next),
+    }
+}
+
+// One step of an iteration that stands at a place: the item there, or that there is none.
+pub fn iterate_next(region: &[u8], script: &[u8], at: usize, step: Step) -> NextAnswer
+    ensures { λ r. ⌜ Visits (now (region .entry)) (now (script .entry)) at step r ⌝ }
+{
+    let next = script::stepped(script, step);
+    let verdict = script::fate(script, step);
+    let Verdict::Pass = verdict else {
+        return unmet(verdict, next);
+    };
+    NextAnswer::Met(region::next_item(region, at), next)
+}

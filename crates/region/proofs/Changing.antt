@@ -1,0 +1,113 @@
+-- What `remove` and `store` make of a good image: document 01's `removeIn` and `storeIn`, from the bytes that they write.
+use mathlib.Core.Path.{_≡_, refl, sym, ap, ap₂, _∙_}
+use mathlib.Core.Bool.{Bool, true, false}
+use mathlib.Core.List.{List, [], _∷_, _++_, append-assoc, append-nil}
+use Prim.Native.Nat.{ℕ, zero, suc, _+_, _-_, _≤_, _<_}
+use native.Mathlib.Nat.{zero-add}
+use native.Mathlib.Omega.{arith}
+use lib.Dec.{leb}
+use borrow.Author.Tests.{le-leb, lt-leb}
+use lib.ListN.{length, take, drop, replicate, replicate-append-replicate, length-replicate, length-append}
+use lib.Seq.{take-append-seam, drop-append-seam, drop-append-add}
+use Rattle.definition.specs.Tools.{Bytes}
+use Rattle.definition.specs.Region.{Item, removed, stored, span, spanOf, recordOf, allowed, good, items, used, records, render, room, removeIn, roomIn, storeIn}
+use Rattle.definition.proofs.Choices.{pick-yes, pick-no}
+use Rattle.definition.proofs.Records.{record-length}
+use Rattle.definition.proofs.Items.{absent, used-append, used-stored}
+use Rattle.definition.proofs.Image.{records-length, records-append, used-fits, good-is-rendered, remove-good, store-good, store-room, store-full}
+use Rattle.region.specs.Places.{placeOf}
+use Rattle.region.specs.Changes.{written, without, Now, Stores, storedBy}
+use Rattle.region.specs.declared.Found.the-variants as F
+use Rattle.region.specs.declared.Stored.the-variants.{Done, Full}
+use Rattle.region.proofs.Finding.{Split, split, nowhere}
+
+-- ---- `remove`
+
+without-middle : (p q t : Bytes) → without (p ++ (q ++ t)) (length p) (length q) ≡ p ++ (t ++ replicate (length q) 255)
+unfolding without
+without-middle p q t =
+    ap₂ (λ (x y : Bytes). x ++ (y ++ replicate (length q) 255)) (take-append-seam p (q ++ t)) (drop-append-add p (q ++ t) (length q) ∙ drop-append-seam q t)
+
+-- the record of an item taken out of an image
+without-item : (len : ℕ) (a c : List Item) (i : Item) → used (a ++ i ∷ c) ≤ len → without (render len (a ++ i ∷ c)) (used a) (spanOf i) ≡ render len (a ++ c)
+unfolding render records used
+without-item len a c i h =
+    let m : ℕ = len - used (a ++ i ∷ c) in
+    let n : ℕ = len - used (a ++ c) in
+    let t : Bytes = records c ++ replicate m 255 in
+    let u = used-append a (i ∷ c) in
+    let w = used-append a c in
+    let e : m + spanOf i ≡ n = omega arith in
+    let lq : length (recordOf i) ≡ spanOf i = record-length i in
+    ap (λ (l : Bytes). without (l ++ replicate m 255) (used a) (spanOf i)) (records-append a (i ∷ c))
+    ∙ ap (λ (l : Bytes). without l (used a) (spanOf i)) (simp append-assoc)
+    ∙ ap₂ (λ (x y : ℕ). without (records a ++ (recordOf i ++ t)) x y) (sym (records-length a)) (sym lq)
+    ∙ without-middle (records a) (recordOf i) t
+    ∙ ap (λ (x : ℕ). records a ++ ((records c ++ replicate m 255) ++ replicate x 255)) lq
+    ∙ ap (λ (l : Bytes). records a ++ l) (append-assoc (records c) (replicate m 255) (replicate (spanOf i) 255))
+    ∙ ap (λ (l : Bytes). records a ++ (records c ++ l)) (replicate-append-replicate m (spanOf i) 255 ∙ ap (λ (x : ℕ). replicate x 255) e)
+    ∙ sym (ap (λ (l : Bytes). l ++ replicate n 255) (records-append a c) ∙ append-assoc (records a) (records c) (replicate n 255))
+
+module _ (s key : Bytes) (g : good s ≡ true) where
+  pub removes : {b : Bytes} (at k v : ℕ) {n : ℕ} → placeOf 0 key (items s) ≡ F.At at k v → n ≡ span k v → b ≡ without s at n → Now b (removeIn key s)
+  unfolding removeIn spanOf
+  removes {b} at k v {n} e en eb =
+      let r = split key (items s) 0 at k v e in
+      let is = r .items-are in
+      let es : s ≡ render (length s) (r .before ++ r .it ∷ r .after) = good-is-rendered s g ∙ ap (render (length s)) is in
+      let fits : used (r .before ++ r .it ∷ r .after) ≤ length s = omega (arith, used-fits s, ap used is) in
+      let ea : at ≡ used (r .before) = r .at-is ∙ zero-add (used (r .before)) in
+      let ez : n ≡ spanOf (r .it) = en ∙ sym (ap₂ span (r .k-is) (r .v-is)) in
+      let eq : b ≡ removeIn key s =
+      eb ∙ ap (λ (x : Bytes). without x at n) es
+      ∙ ap₂ (λ (x y : ℕ). without (render (length s) (r .before ++ r .it ∷ r .after)) x y) ea ez
+      ∙ without-item (length s) (r .before) (r .after) (r .it) fits ∙ ap (render (length s)) (sym (r .stay)) in
+      record { fine = ap good eq ∙ remove-good s g key; is = eq }
+
+  pub removes-nothing : placeOf 0 key (items s) ≡ F.Nothing → Now s (removeIn key s)
+  unfolding removeIn
+  removes-nothing e =
+      record { fine = g; is = good-is-rendered s g ∙ ap (render (length s)) (sym (absent key (items s) (nowhere key (items s) 0 e) .1)) }
+
+-- ---- `store`
+
+drop-replicate : (n m b : ℕ) → drop n (replicate m b) ≡ replicate (m - n) b
+drop-replicate zero m b = let e : m ≡ m - zero = omega arith in ap (λ (x : ℕ). replicate x b) e
+drop-replicate (suc n) zero b = let e : 0 ≡ zero - suc n = omega arith in ap (λ (x : ℕ). replicate x b) e
+drop-replicate (suc n) (suc m) b = let e : m - n ≡ suc m - suc n = omega arith in drop-replicate n m b ∙ ap (λ (x : ℕ). replicate x b) e
+
+written-middle : (p t e : Bytes) → written (p ++ t) (length p) e ≡ p ++ (e ++ drop (length e) t)
+unfolding written
+written-middle p t e = ap₂ (λ (x y : Bytes). x ++ (e ++ y)) (take-append-seam p t) (drop-append-add p t (length e))
+
+-- an item's record written behind the records of an image
+written-item : (len : ℕ) (a : List Item) (i : Item) → written (render len a) (used a) (recordOf i) ≡ render len (a ++ (i ∷ []))
+unfolding render records used
+written-item len a i =
+    let m : ℕ = len - used a in
+    let u = used-append a (i ∷ []) in
+    let e : m - spanOf i ≡ len - used (a ++ (i ∷ [])) = omega arith in
+    ap (λ (x : ℕ). written (records a ++ replicate m 255) x (recordOf i)) (sym (records-length a))
+    ∙ written-middle (records a) (replicate m 255) (recordOf i)
+    ∙ ap (λ (l : Bytes). records a ++ (recordOf i ++ l))
+    (ap (λ (x : ℕ). drop x (replicate m 255)) (record-length i) ∙ drop-replicate (spanOf i) m 255 ∙ ap (λ (x : ℕ). replicate x 255) e)
+    ∙ sym (ap (λ (l : Bytes). l ++ replicate (len - used (a ++ (i ∷ []))) 255) (records-append a (i ∷ [])) ∙ simp (append-nil, append-assoc))
+
+module _ (s : Bytes) (i : Item) (g : good s ≡ true) (ok : allowed (length (i .key)) (length (i .value)) ≡ true)
+    {end need : ℕ} (ee : end ≡ used (removed (i .key) (items s))) (en : need ≡ spanOf i) where
+  pub stores : {b c : Bytes} → Now b (removeIn (i .key) s) → end + need ≤ length s → c ≡ written b end (recordOf i) → Stores i s c Done
+  unfolding roomIn room storedBy removeIn stored
+  stores {b} {c} h l f =
+      let fits : used (removed (i .key) (items s)) + spanOf i ≤ length s = omega arith in
+      let y : roomIn i s ≡ true = pick-yes _ _ ok ∙ le-leb _ _ fits in
+      let eq : c ≡ storeIn i s =
+      f ∙ ap₂ (λ (x : Bytes) (n : ℕ). written x n (recordOf i)) (h .is) ee
+      ∙ written-item (length s) (removed (i .key) (items s)) i ∙ sym (store-room i s y) in
+      record { answer = sym (ap storedBy y); now = record { fine = ap good eq ∙ store-good s g i; is = eq } }
+
+  pub stores-nothing : length s < end + need → Stores i s s Full
+  unfolding roomIn room storedBy
+  stores-nothing l =
+      let over : length s < used (removed (i .key) (items s)) + spanOf i = omega arith in
+      let n : roomIn i s ≡ false = pick-yes _ _ ok ∙ lt-leb _ _ over in
+      record { answer = sym (ap storedBy n); now = record { fine = g; is = sym (store-full i s n) } }

@@ -1,0 +1,146 @@
+-- A walk over the records, one a turn: what a visit of a place says, and what it makes of the items that are left.
+use mathlib.Core.Path.{_≡_, refl, sym, ap, ap₂, _∙_, subst}
+use mathlib.Core.Logic.{⊎-elim}
+use mathlib.Core.Bool.{Bool, true, false}
+use mathlib.Core.List.{List, [], _∷_, _++_, append-assoc, append-nil}
+use Prim.Native.Nat.{ℕ, suc, _+_, _-_, _≤_, _<_}
+use native.Mathlib.Nat.{add-assoc, add-zero}
+use native.Mathlib.Omega.{arith}
+use types.Run.{OneOf}
+use denote.Enum.Declared.{tagOf}
+use lib.ListN.{length, take, drop, length-take, length-drop}
+use lib.Seq.{drop-drop}
+use Rattle.definition.specs.Tools.{Bytes, pick, eqs}
+use Rattle.definition.specs.Region.{Item, item, hasKey, has, distinct, headSize, span, spanOf, headOf, itemAt, items, whole, used}
+use Rattle.definition.specs.declared.Head.{Head}
+use Rattle.definition.specs.declared.Head.the-variants.{Record, End, Bad}
+use Rattle.definition.proofs.Head.{the-type}
+use Rattle.definition.proofs.Choices.{pick-yes, pick-no}
+use Rattle.definition.proofs.Records.{span-holds, bounded, record-sound}
+use Rattle.definition.proofs.Items.{used-append}
+use Rattle.definition.proofs.Image.{items-record, items-end, items-bad, whole-record}
+use Rattle.region.specs.Places.{keyAt, valueAt, Met, AtPlace, Visit, Walk, placeOf}
+use Rattle.region.specs.declared.Next.{Next}
+use Rattle.region.specs.declared.Next.the-variants as N
+use Rattle.region.specs.declared.Found.{Found}
+use Rattle.region.specs.declared.Found.the-variants as F
+
+-- ---- a visit
+
+module _ (s : Bytes) (at k v : ℕ) where
+  pub item-there : itemAt k v (drop at s) ≡ item (keyAt s at k) (valueAt s at k v)
+  unfolding keyAt valueAt
+  item-there =
+      ap₂ item (ap (take k) (drop-drop headSize at s))
+      (ap (take v) (drop-drop (headSize + k) at s ∙ ap (λ (n : ℕ). drop n s) (sym (add-assoc at headSize k))))
+
+  pub met : {n : ℕ} → headOf (drop at s) ≡ Record k v → n ≡ at + span k v → Met s at k v n
+  met {n} e en =
+      let h = record-sound (drop at s) k v e in
+      let b = bounded k v (h .fits) in
+      let w = h .within in
+      let l = length-drop at s in
+      let g = span-holds k v in
+      record {
+        head = e;
+        left =
+            items-record (drop at s) k v e
+            ∙ ap₂ (λ (i : Item) (is : List Item). i ∷ is) item-there (ap items (drop-drop (span k v) at s ∙ ap (λ (m : ℕ). drop m s) (sym en)));
+        next-is = en;
+        holds = omega arith;
+        inside = omega arith;
+        short = b .short;
+        small = b .small;
+      }
+
+-- no record: the tag that the code tested is 1 for `End`, 2 for `Bad`
+pub no-record : (s : Bytes) (h : Head) → h ≡ headOf s → OneOf (1 ∷ 2 ∷ []) (tagOf the-type h) → items s ≡ []
+no-record s End e o = items-end s (sym e)
+no-record s Bad e o = items-bad s (sym e)
+no-record s (Record k v) e o = absurd (⊎-elim (λ (w : _≡_ {A = ℕ} 0 1). omega arith) (λ (w : _≡_ {A = ℕ} 0 2). omega arith) o)
+
+-- what a caller learns from the answer that it opened
+module _ {s : Bytes} {at : ℕ} {r : Next} (h : Visit s at r) where
+  pub met-item : {k v n : ℕ} → r ≡ N.Item k v n → Met s at k v n
+  met-item e = subst (AtPlace s at) e (h .is)
+
+  pub met-nothing : r ≡ N.Nothing → items (drop at s) ≡ []
+  met-nothing e = subst (AtPlace s at) e (h .is)
+
+-- ---- the record that was met
+
+module _ {s : Bytes} {at k v n : ℕ} (m : Met s at k v n) where
+  pub met-key-length : length (keyAt s at k) ≡ k
+  unfolding keyAt
+  met-key-length = let a = m .holds in let b = m .inside in simp (length-take, length-drop) (omega arith)
+
+  pub met-value-length : length (valueAt s at k v) ≡ v
+  unfolding valueAt
+  met-value-length = let a = m .holds in let b = m .inside in simp (length-take, length-drop) (omega arith)
+
+  pub met-span : spanOf (item (keyAt s at k) (valueAt s at k v)) ≡ span k v
+  unfolding spanOf
+  met-span = ap₂ span met-key-length met-value-length
+
+  pub met-whole : whole (drop at s) ≡ whole (drop n s)
+  met-whole = whole-record (drop at s) k v (m .head) ∙ ap whole (drop-drop (span k v) at s ∙ ap (λ (x : ℕ). drop x s) (sym (m .next-is)))
+
+  pub met-used : at + used (items (drop at s)) ≡ n + used (items (drop n s))
+  unfolding used
+  met-used =
+      let e = met-span in
+      let f = m .next-is in
+      ap (λ (l : List Item). at + used l) (m .left) ∙ omega arith
+
+  pub met-count : (c : ℕ) → c + length (items (drop at s)) ≡ c + 1 + length (items (drop n s))
+  met-count c = ap (λ (l : List Item). c + length l) (m .left) ∙ omega arith
+
+  -- the place of a key: here, or further on
+  module _ (key : Bytes) {b : Bool} {part : Bytes} (ep : part ≡ keyAt s at k) (eb : b ≡ eqs part key) where
+    place-at : placeOf at key (items (drop at s)) ≡ pick b (F.At at k v) (placeOf n key (items (drop n s)))
+    unfolding placeOf hasKey
+    place-at =
+        let kl = met-key-length in
+        let vl = met-value-length in
+        let e : at + spanOf (item (keyAt s at k) (valueAt s at k v)) ≡ n = ap (λ (x : ℕ). at + x) met-span ∙ sym (m .next-is) in
+        ap (placeOf at key) (m .left) ∙ rw (kl, vl, e, eb, ep)
+
+    pub place-hit : b ≡ true → placeOf at key (items (drop at s)) ≡ F.At at k v
+    place-hit t = place-at ∙ pick-yes _ _ t
+
+    pub place-miss : b ≡ false → placeOf at key (items (drop at s)) ≡ placeOf n key (items (drop n s))
+    place-miss f = place-at ∙ pick-no _ _ f
+
+pub place-stop : (s key : Bytes) (at : ℕ) → items (drop at s) ≡ [] → placeOf at key (items (drop at s)) ≡ F.Nothing
+unfolding placeOf
+place-stop s key at e = ap (placeOf at key) e
+
+pub used-stop : (s : Bytes) (at : ℕ) → items (drop at s) ≡ [] → at + used (items (drop at s)) ≡ at
+unfolding used
+used-stop s at e = ap (λ (l : List Item). at + used l) e ∙ add-zero at
+
+pub count-stop : (s : Bytes) (at n : ℕ) → items (drop at s) ≡ [] → n + length (items (drop at s)) ≡ n
+count-stop s at n e = ap (λ (l : List Item). n + length l) e ∙ add-zero n
+
+-- ---- the whole walk
+
+pub walk-start : (s : Bytes) → Walk s [] 0 (items s)
+unfolding used
+walk-start s = record { all = refl; from = refl; place = refl }
+
+module _ {s : Bytes} {seen left : List Item} {at : ℕ} (w : Walk s seen at left) where
+  pub walk-on : {k v n : ℕ} → Met s at k v n → Walk s (seen ++ (item (keyAt s at k) (valueAt s at k v) ∷ [])) n (items (drop n s))
+  unfolding used
+  walk-on {k} {v} {n} m =
+      let i : Item = item (keyAt s at k) (valueAt s at k v) in
+      let e = met-span m in
+      let f = m .next-is in
+      let p = w .place in
+      record {
+        all = w .all ∙ ap (λ (l : List Item). seen ++ l) (sym (w .from) ∙ m .left) ∙ sym (append-assoc seen (i ∷ []) (items (drop n s)));
+        from = refl;
+        place = omega (arith, used-append seen (i ∷ []));
+      }
+
+  pub walk-over : items (drop at s) ≡ [] → items s ≡ seen
+  walk-over e = w .all ∙ ap (λ (l : List Item). seen ++ l) (sym (w .from) ∙ e) ∙ append-nil seen

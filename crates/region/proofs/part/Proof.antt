@@ -1,0 +1,22 @@
+use borrow.Author.Needs.{needs}
+use native.Mathlib.Nat.{add-sub-cancel-left}
+use Rattle.region.proofs.part.Statement.{statement}
+use Rattle.region.proofs.part.Tie as tie
+
+add-to : tie.Need-add-to
+add-to c = search needs
+
+sub-result : tie.Need-sub-result
+sub-result c = search needs
+
+part-result-start : tie.Need-part-result-start
+part-result-start c = search needs
+
+part-result-end : tie.Need-part-result-end
+part-result-end c = search needs
+
+returns : tie.Need-returns
+returns c = simp add-sub-cancel-left
+
+pub part-spec : {M : Type 1} → statement M
+part-spec = tie.close (tie.spec add-to sub-result part-result-start part-result-end returns)

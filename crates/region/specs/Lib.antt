@@ -1,0 +1,3 @@
+-- What the region's own functions answer, over document 01's definitions.
+pub mod Places
+pub mod Changes

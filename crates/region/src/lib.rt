@@ -1,0 +1,467 @@
+// The region's bytes: the image test, the records by place and by key, and the two item calls that write. Document 01 defines them in "The
+// region and its items"; the contracts say that each function is that definition. Nothing above this crate knows a byte of a record.
+use definition::Head;
+ghost use mathlib.Core.Path.{_≡_};
+ghost use mathlib.Core.Bool.{true};
+ghost use mathlib.Core.List.{_++_};
+ghost use Prim.Native.Nat.{_+_, _-_, _≤_, _<_};
+ghost use lib.ListN.{length, take, drop, replicate};
+ghost use lib.Seq.{paste};
+ghost use Rattle.definition.specs.Tools.{eqs};
+ghost use Rattle.definition.specs.Region;
+ghost use Rattle.definition.specs.Region.{item, distinct, removed, le16At, spanOf, recordOf, allowed, blank, headOf, items, whole, good, removeIn};
+ghost use Rattle.definition.specs.Codec.{laid};
+ghost use Rattle.definition.specs.Recovery.{isJournal};
+ghost use Rattle.region.specs.Places.{Visit, placeOf, keyAt, valueAt, Fetched, FirstJournal};
+ghost use Rattle.region.specs.Changes.{written, without, Now, Stores};
+
+// What stands in front of a key.
+pub const HEAD_SIZE: usize = 9;
+// The kind of a record that is an item.
+const ITEM_KIND: usize = 1;
+// The longest key of a record, and the most bytes of its key length, key and value together.
+const KEY_LIMIT: usize = 96;
+
+const ITEM_LIMIT: usize = 482;
+
+// What a walk meets at a place: a record's key length, value length and the next place; or the walk is over.
+pub enum Next {
+    Item(usize, usize, usize),
+    Nothing,
+}
+
+// Where the record with a key stands, its key length and its value length.
+pub enum Found {
+    At(usize, usize, usize),
+    Nothing,
+}
+
+// Where bytes stand, and how many.
+pub enum Spot {
+    At(usize, usize),
+    Nothing,
+}
+
+// What a store answers.
+pub enum Stored {
+    Done,
+    Full,
+}
+
+// ---- one record
+
+fn wide(x: u8) -> usize
+    ensures { λ r. ⌜ (r ≡ x) × (r < 256) ⌝ }
+{
+    x as usize
+}
+
+// Two bytes as a number, the lower first.
+fn le16_at(bytes: &[u8], at: usize) -> usize
+    requires { ⌜ at + 2 ≤ length (now bytes) ⌝ }
+    ensures { λ r. ⌜ (r ≡ le16At (now (bytes .entry)) at) × (r < 65536) ⌝ }
+{
+    wide(bytes[at]) + wide(bytes[at + 1]) * 256
+}
+
+// A record's length field.
+pub fn size(klen: usize, vlen: usize) -> usize
+    requires { ⌜ (klen < 256) × (vlen < 65536) ⌝ }
+    ensures { λ r. ⌜ r ≡ Region.size klen vlen ⌝ }
+{
+    HEAD_SIZE + klen + vlen
+}
+
+// The room that a record takes in a region.
+pub fn span(klen: usize, vlen: usize) -> usize
+    requires { ⌜ (klen < 256) × (vlen < 65536) ⌝ }
+    ensures { λ r. ⌜ r ≡ Region.span klen vlen ⌝ }
+{
+    size(klen, vlen)
+}
+
+// Whether an item may be stored.
+pub fn is_allowed(klen: usize, vlen: usize) -> bool
+    ensures { λ r. ⌜ r ≡ allowed klen vlen ⌝ }
+{
+    if klen > KEY_LIMIT {
+        return false;
+    }
+    // No sum, so that no length is too large to ask about.
+    vlen <= ITEM_LIMIT - 1 - klen
+}
+
+// The bytes in front of a key and a value.
+pub fn header(kind: usize, klen: usize, vlen: usize) -> [u8; 9]
+    requires { ⌜ (klen < 256) × (vlen < 65536) ⌝ }
+    ensures { λ r. ⌜ r ≡ Region.header kind klen vlen ⌝ }
+{
+    let n = size(klen, vlen);
+    [
+        (n % 256) as u8,
+        (n / 256 % 256) as u8,
+        (n / 65536 % 256) as u8,
+        (n / 16777216 % 256) as u8,
+        (kind % 256) as u8,
+        (kind / 256 % 256) as u8,
+        (vlen % 256) as u8,
+        (vlen / 256 % 256) as u8,
+        klen as u8,
+    ]
+}
+
+// Whether two runs of bytes are the same.
+pub fn same(a: &[u8], b: &[u8]) -> bool
+    ensures { λ r. ⌜ r ≡ eqs (now (a .entry)) (now (b .entry)) ⌝ }
+{
+    if a.len() != b.len() {
+        return false;
+    }
+    let mut i: usize = 0;
+    while i < a.len() {
+        if a[i] != b[i] {
+            return false;
+        }
+        i += 1;
+    }
+    true
+}
+
+// Whether a record's first bytes are those of its kind and lengths.
+pub fn agrees(bytes: &[u8], at: usize, kind: usize, klen: usize, vlen: usize) -> bool
+    requires { ⌜ at + Region.headSize ≤ length (now bytes) ⌝ }
+    requires { ⌜ (klen < 256) × (vlen < 65536) ⌝ }
+    ensures { λ r. ⌜ r ≡ Region.agrees kind klen vlen (drop at (now (bytes .entry))) ⌝ }
+{
+    let head = header(kind, klen, vlen);
+    let to = at + HEAD_SIZE;
+    same(&bytes[at..to], &head)
+}
+
+// ---- what stands at a place
+
+// Whether only 0xFF stands from a place on.
+fn is_blank_from(region: &[u8], at: usize) -> bool
+    ensures { λ r. ⌜ r ≡ blank (drop at (now (region .entry))) ⌝ }
+{
+    let mut i = at;
+    while i < region.len() {
+        if region[i] != 255 {
+            return false;
+        }
+        i += 1;
+    }
+    true
+}
+
+pub fn head_at(region: &[u8], at: usize) -> Head
+    ensures { λ r. ⌜ r ≡ headOf (drop at (now (region .entry))) ⌝ }
+{
+    if is_blank_from(region, at) {
+        return Head::End;
+    }
+    let left = region.len() - at;
+    if left < HEAD_SIZE {
+        return Head::Bad;
+    }
+    let klen = wide(region[at + 8]);
+    let vlen = le16_at(region, at + 6);
+    if !is_allowed(klen, vlen) {
+        return Head::Bad;
+    }
+    if !agrees(region, at, ITEM_KIND, klen, vlen) {
+        return Head::Bad;
+    }
+    if left < span(klen, vlen) {
+        return Head::Bad;
+    }
+    Head::Record(klen, vlen)
+}
+
+// A walk over the items starts at 0, and goes from each place to the next until there is nothing.
+pub fn next_item(region: &[u8], at: usize) -> Next
+    ensures { λ r. ⌜ Visit (now (region .entry)) at r ⌝ }
+{
+    let Head::Record(klen, vlen) = head_at(region, at) else {
+        return Next::Nothing;
+    };
+    Next::Item(klen, vlen, at + span(klen, vlen))
+}
+
+pub fn part(bytes: &[u8], at: usize, len: usize) -> &[u8]
+    requires { ⌜ at + len ≤ length (now bytes) ⌝ }
+    ensures { λ r. ⌜ now r ≡ take len (drop at (now (bytes .entry))) ⌝ }
+{
+    let to = at + len;
+    &bytes[at..to]
+}
+
+// The key of the record at a place.
+pub fn key_at(region: &[u8], at: usize, klen: usize) -> &[u8]
+    requires { ⌜ at + Region.headSize + klen ≤ length (now region) ⌝ }
+    ensures { λ r. ⌜ now r ≡ keyAt (now (region .entry)) at klen ⌝ }
+{
+    part(region, at + HEAD_SIZE, klen)
+}
+
+// The value of the record at a place.
+pub fn value_at(region: &[u8], at: usize, klen: usize, vlen: usize) -> &[u8]
+    requires { ⌜ at + Region.headSize + klen + vlen ≤ length (now region) ⌝ }
+    ensures { λ r. ⌜ now r ≡ valueAt (now (region .entry)) at klen vlen ⌝ }
+{
+    part(region, at + HEAD_SIZE + klen, vlen)
+}
+
+// ---- the item with a key
+
+// Where the record with a key stands, from a record on.
+fn find_from(region: &[u8], from: usize, key: &[u8]) -> Found
+    ensures { λ r. ⌜ r ≡ placeOf from (now (key .entry)) (items (drop from (now (region .entry)))) ⌝ }
+{
+    let mut at = from;
+    loop {
+        let Next::Item(klen, vlen, next) = next_item(region, at) else {
+            return Found::Nothing;
+        };
+        if same(key_at(region, at, klen), key) {
+            return Found::At(at, klen, vlen);
+        }
+        at = next;
+    }
+}
+
+pub fn find(region: &[u8], key: &[u8]) -> Found
+    ensures { λ r. ⌜ r ≡ placeOf 0 (now (key .entry)) (items (now (region .entry))) ⌝ }
+{
+    find_from(region, 0, key)
+}
+
+// Where the value under a key stands.
+pub fn fetch(region: &[u8], key: &[u8]) -> Spot
+    ensures { λ r. ⌜ Fetched (now (region .entry)) (now (key .entry)) r ⌝ }
+{
+    let Found::At(at, klen, vlen) = find(region, key) else {
+        return Spot::Nothing;
+    };
+    Spot::At(at + HEAD_SIZE + klen, vlen)
+}
+
+// ---- the image test
+
+// Whether only 0xFF follows the records.
+fn is_whole(region: &[u8]) -> bool
+    ensures { λ r. ⌜ r ≡ whole (now (region .entry)) ⌝ }
+{
+    let mut at: usize = 0;
+    loop {
+        match head_at(region, at) {
+            Head::Record(klen, vlen) => {
+                at = at + span(klen, vlen);
+            }
+            Head::End => {
+                return true;
+            }
+            Head::Bad => {
+                return false;
+            }
+        }
+    }
+}
+
+// Whether no key occurs twice.
+fn is_distinct(region: &[u8]) -> bool
+    ensures { λ r. ⌜ r ≡ distinct (items (now (region .entry))) ⌝ }
+{
+    let mut at: usize = 0;
+    loop {
+        let Next::Item(klen, vlen, next) = next_item(region, at) else {
+            return true;
+        };
+        let Found::Nothing = find_from(region, next, key_at(region, at, klen)) else {
+            return false;
+        };
+        at = next;
+    }
+}
+
+pub fn is_good(region: &[u8]) -> bool
+    ensures { λ r. ⌜ r ≡ good (now (region .entry)) ⌝ }
+{
+    if is_whole(region) {
+        is_distinct(region)
+    } else {
+        false
+    }
+}
+
+// ---- counting
+
+// The bytes that the records take.
+pub fn used(region: &[u8]) -> usize
+    ensures { λ r. ⌜ (r ≡ Region.used (items (now (region .entry)))) × (r ≤ length (now (region .entry))) ⌝ }
+{
+    let mut at: usize = 0;
+    loop {
+        let Next::Item(klen, vlen, next) = next_item(region, at) else {
+            return at;
+        };
+        at = next;
+    }
+}
+
+// The records.
+pub fn count(region: &[u8]) -> usize
+    ensures { λ r. ⌜ r ≡ length (items (now (region .entry))) ⌝ }
+{
+    let mut at: usize = 0;
+    let mut n: usize = 0;
+    loop {
+        let Next::Item(klen, vlen, next) = next_item(region, at) else {
+            return n;
+        };
+        at = next;
+        n += 1;
+    }
+}
+
+// ---- the journal's keys
+
+pub fn is_journal(key: &[u8]) -> bool
+    ensures { λ r. ⌜ r ≡ isJournal (now (key .entry)) ⌝ }
+{
+    if key.len() != 4 {
+        return false;
+    }
+    if key[0] != 0 {
+        return false;
+    }
+    key[1] == 0x6a
+}
+
+// Where the first journal key stands.
+pub fn first_journal(region: &[u8]) -> Spot
+    ensures { λ r. ⌜ FirstJournal (now (region .entry)) r ⌝ }
+{
+    let mut at: usize = 0;
+    loop {
+        let Next::Item(klen, vlen, next) = next_item(region, at) else {
+            return Spot::Nothing;
+        };
+        if is_journal(key_at(region, at, klen)) {
+            return Spot::At(at + HEAD_SIZE, klen);
+        }
+        at = next;
+    }
+}
+
+// ---- bytes written
+
+// Copies src to a place.
+pub fn copy_in(dst: &mut [u8], at: usize, src: &[u8])
+    requires { ⌜ at + length (now src) ≤ length (now dst) ⌝ }
+    ensures { λ _. ⌜ now (dst .exit) ≡ written (now (dst .entry)) at (now (src .entry)) ⌝ }
+{
+    let mut i: usize = 0;
+    while i < src.len() {
+        dst[at + i] = src[i];
+        i += 1;
+    }
+}
+
+// Copies a part of the region to the front of out.
+pub fn copy_out(region: &[u8], at: usize, len: usize, out: &mut [u8])
+    requires { ⌜ (at + len ≤ length (now region)) × (len ≤ length (now out)) ⌝ }
+    ensures { λ _. ⌜ now (out .exit) ≡ laid (take len (drop at (now (region .entry)))) (now (out .entry)) ⌝ }
+{
+    copy_in(out, 0, part(region, at, len));
+}
+
+// Writes a record at a place.
+pub fn put_record(dst: &mut [u8], at: usize, key: &[u8], value: &[u8])
+    requires { ⌜ (length (now key) < 256) × (length (now value) < 65536) ⌝ }
+    requires { ⌜ at + spanOf (item (now key) (now value)) ≤ length (now dst) ⌝ }
+    ensures { λ _. ⌜ now (dst .exit) ≡ written (now (dst .entry)) at (recordOf (item (now (key .entry)) (now (value .entry)))) ⌝ }
+{
+    let head = header(ITEM_KIND, key.len(), value.len());
+    copy_in(dst, at, &head);
+    let key_from = at + HEAD_SIZE;
+    copy_in(dst, key_from, key);
+    let value_from = key_from + key.len();
+    copy_in(dst, value_from, value);
+}
+
+// Moves the bytes from `from` on down to `at`, the lowest first, so that none is overwritten before it moved.
+fn move_down(region: &mut [u8], at: usize, from: usize)
+    requires { ⌜ (at ≤ from) × (from ≤ length (now region)) ⌝ }
+    ensures { λ _. ⌜ now (region .exit) ≡ paste (now (region .entry)) at (drop from (now (region .entry))) (length (now (region .entry)) - from) ⌝ }
+{
+    let count = region.len() - from;
+    let mut moved: usize = 0;
+    while moved < count {
+        region[at + moved] = region[from + moved];
+        moved += 1;
+    }
+}
+
+// Fills with 0xFF from a place on.
+fn erase_from(region: &mut [u8], at: usize)
+    requires { ⌜ at ≤ length (now region) ⌝ }
+    ensures { λ _. ⌜ now (region .exit) ≡ take at (now (region .entry)) ++ replicate (length (now (region .entry)) - at) 255 ⌝ }
+{
+    let count = region.len() - at;
+    let mut erased: usize = 0;
+    while erased < count {
+        region[at + erased] = 255;
+        erased += 1;
+    }
+}
+
+// Takes the n bytes at a place out, closes the gap and erases what is freed.
+fn cut(region: &mut [u8], at: usize, n: usize)
+    requires { ⌜ at + n ≤ length (now region) ⌝ }
+    ensures { λ _. ⌜ now (region .exit) ≡ without (now (region .entry)) at n ⌝ }
+{
+    move_down(region, at, at + n);
+    let end = region.len() - n;
+    erase_from(region, end);
+}
+
+// ---- the item calls that write
+
+// Drops the record with a key and closes the gap; an absent key changes nothing.
+pub fn remove(region: &mut [u8], key: &[u8])
+    requires { ⌜ good (now region) ≡ true ⌝ }
+    ensures { λ _. ⌜ Now (now (region .exit)) (removeIn (now (key .entry)) (now (region .entry))) ⌝ }
+{
+    let Found::At(at, klen, vlen) = find(region, key) else {
+        return;
+    };
+    let n = span(klen, vlen);
+    cut(region, at, n);
+}
+
+// The room that the record with a key takes, or 0.
+fn old_span(region: &[u8], key: &[u8]) -> usize
+    ensures { λ r. ⌜ Region.used (items (now (region .entry))) ≡ Region.used (removed (now (key .entry)) (items (now (region .entry)))) + r ⌝ }
+{
+    let Found::At(_, klen, vlen) = find(region, key) else {
+        return 0;
+    };
+    span(klen, vlen)
+}
+
+// Drops the record with the key, closes the gap and appends the new one, if there is room for it then.
+pub fn store(region: &mut [u8], key: &[u8], value: &[u8]) -> Stored
+    requires { ⌜ good (now region) ≡ true ⌝ }
+    requires { ⌜ allowed (length (now key)) (length (now value)) ≡ true ⌝ }
+    ensures { λ r. ⌜ Stores (item (now (key .entry)) (now (value .entry))) (now (region .entry)) (now (region .exit)) r ⌝ }
+{
+    let end = used(region) - old_span(region, key);
+    let need = span(key.len(), value.len());
+    if region.len() < end + need {
+        return Stored::Full;
+    }
+    remove(region, key);
+    put_record(region, end, key, value);
+    Stored::Done
+}
