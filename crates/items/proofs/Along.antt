@@ -1,5 +1,5 @@
 -- How a function's proof goes along its calls: what was run so far, and then what follows a call's success or its failure.
-use mathlib.Core.Path.{_≡_, refl, sym, ap, _∙_}
+use mathlib.Core.Path.{_≡_, refl, sym, ap, _∙_, subst}
 use mathlib.Core.Bool.{Bool, true}
 use mathlib.Core.Option.{Option}
 use Prim.Native.Nat.{ℕ}
@@ -9,8 +9,9 @@ use Rattle.definition.specs.Program.{Prog, ret, err, see, onP, _▷_, World, wo
 use Rattle.definition.proofs.Running.{exec-ok, exec-bad}
 use Rattle.definition.specs.declared.Step.{Step}
 use Rattle.definition.specs.declared.Fault.{Fault}
-use Rattle.region.specs.Places.{spotted}
+use Rattle.region.specs.Places.{spotted, Inside}
 use Rattle.region.specs.declared.Spot.{Spot}
+use Rattle.region.specs.declared.Spot.the-variants.{At}
 use Rattle.region.specs.declared.Next.{Next}
 use Rattle.items.specs.declared.ItemAnswer.{ItemAnswer}
 use Rattle.items.specs.declared.ItemAnswer.the-variants.{Done, Failed}
@@ -18,7 +19,7 @@ use Rattle.items.specs.declared.FetchAnswer.{FetchAnswer}
 use Rattle.items.specs.declared.FetchAnswer.the-variants.{Got, Missed}
 use Rattle.items.specs.declared.NextAnswer.{NextAnswer}
 use Rattle.items.specs.declared.NextAnswer.the-variants.{Met, Unmet}
-use Rattle.items.specs.Forms.{Runs, Ran, itemRun, Fetches, fetchRun, Visits, nextRun}
+use Rattle.items.specs.Forms.{Runs, Ran, itemRun, Fetches, fetchRun, GotInside, Visits, nextRun, unfetchedOf}
 
 -- ---- one run, by the answer's case
 
@@ -89,6 +90,37 @@ module _ {p : Prog Bytes (Unit {0})} {s script b : Bytes} {t : Step} where
 
   pub runs-ran : (r : ItemAnswer) → Runs p s script t b (itemRun b script r) → Ran p s script t b r
   runs-ran r h = record { fine = h .fine; is = h .is }
+
+-- ---- an item call, and the item calls that follow it
+
+pub ran-as : {p q : Prog Bytes (Unit {0})} {s script b : Bytes} {t : Step} {r : ItemAnswer} → q ≡ p → Ran p s script t b r → Ran q s script t b r
+ran-as {s = s} {script = script} {t = t} e h = record { fine = h .fine; is = h .is ∙ ap (λ p. exec p (world s script t)) (sym e) }
+
+module _ {p : Prog Bytes (Unit {0})} {s script b : Bytes} {t : Step} {r : ItemAnswer} where
+  pub failed-as : {f : Fault} {t1 : Step} → r ≡ Failed f t1 → Runs p s script t b (bad f (world b script t1)) → Ran p s script t b r
+  failed-as e h = record { fine = h .fine; is = ap (itemRun b script) e ∙ h .is }
+
+  module _ (k : Unit {0} → Prog Bytes (Unit {0})) (h : Ran p s script t b r) where
+    pub seq-failed : {f : Fault} {t1 : Step} → r ≡ Failed f t1 → Ran (p ▷ k) s script t b r
+    seq-failed e =
+        let x = then-failed k (ran-failed h e) in
+        record { fine = x .fine; is = ap (itemRun b script) e ∙ x .is }
+
+    pub seq-on : {t1 : Step} {b2 : Bytes} {r2 : ItemAnswer} → r ≡ Done t1 → Ran (k tt) b script t1 b2 r2 → Ran (p ▷ k) s script t b2 r2
+    seq-on {r2 = r2} e n = runs-ran r2 (then-on k err (ran-done h e) (ran-runs n))
+
+module _ {key s script : Bytes} {t : Step} {r : FetchAnswer} (k : Option Bytes → Prog Bytes (Unit {0})) (g : good s ≡ true) (h : Fetches key s script t r) where
+  pub fetch-seq-failed : {f : Fault} {t1 : Step} {u : ItemAnswer} → r ≡ Missed f t1 → u ≡ unfetchedOf r → Ran (fetch flat key ▷ k) s script t s u
+  fetch-seq-failed e eu =
+      let x = then-failed k (fetch-failed g h e) in
+      record { fine = x .fine; is = ap (itemRun s script) (eu ∙ ap unfetchedOf e) ∙ x .is }
+
+  pub fetch-seq-on : {x : Spot} {t1 : Step} {b : Bytes} {r2 : ItemAnswer} → r ≡ Got x t1 → Ran (k (spotted s x)) s script t1 b r2 → Ran (fetch flat key ▷ k) s script t b r2
+  fetch-seq-on {r2 = r2} e n = runs-ran r2 (then-on k err (fetch-done g h e) (ran-runs n))
+
+-- where a fetched value stands
+pub fetch-inside : {key s script : Bytes} {t t1 : Step} {r : FetchAnswer} {x : Spot} {at n : ℕ} → Fetches key s script t r → r ≡ Got x t1 → x ≡ At at n → Inside s at n
+fetch-inside {s = s} {t1 = t1} h e q = subst (GotInside s) (e ∙ ap (λ x. Got x t1) q) (h .inside)
 
 -- ---- loops: what is left to run of p, begun on the region s from step t, is q on the good image b from step t1
 

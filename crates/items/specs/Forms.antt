@@ -71,3 +71,12 @@ missedOf (Fail f e) t = Missed f t
 abbrev pub unmetOf : Verdict → Step → NextAnswer
 unmetOf Pass t = Met N.Nothing t
 unmetOf (Fail f e) t = Unmet f t
+
+-- a failed read as the answer of the call that made it
+abbrev pub unfetchedOf : FetchAnswer → ItemAnswer
+unfetchedOf (Got x t) = Done t
+unfetchedOf (Missed f t) = Failed f t
+
+abbrev pub stoppedOf : NextAnswer → ItemAnswer
+stoppedOf (Met x t) = Done t
+stoppedOf (Unmet f t) = Failed f t

@@ -12,7 +12,7 @@ ghost use lib.ListN.{length};
 ghost use Rattle.definition.specs.Region.{item, good, allowed};
 ghost use Rattle.definition.specs.Program;
 ghost use Rattle.definition.specs.Program.{flat};
-ghost use Rattle.items.specs.Forms.{Ran, Fetches, Visits, missedOf, unmetOf};
+ghost use Rattle.items.specs.Forms.{Ran, Fetches, Visits, missedOf, unmetOf, unfetchedOf, stoppedOf};
 
 // What a store, a removal or an opened iteration answers.
 pub enum ItemAnswer {
@@ -127,4 +127,24 @@ pub fn iterate_next(region: &[u8], script: &[u8], at: usize, step: Step) -> Next
         return unmet(verdict, next);
     };
     NextAnswer::Met(region::next_item(region, at), next)
+}
+
+// A failed fetch as the answer of the call that made it.
+pub fn unfetched(answer: FetchAnswer) -> ItemAnswer
+    ensures { λ r. ⌜ r ≡ unfetchedOf answer ⌝ }
+{
+    match answer {
+        FetchAnswer::Missed(fault, step) => ItemAnswer::Failed(fault, step),
+        FetchAnswer::Got(_, step) => ItemAnswer::Done(step),
+    }
+}
+
+// A failed step of an iteration as the answer of the call that made it.
+pub fn stopped(answer: NextAnswer) -> ItemAnswer
+    ensures { λ r. ⌜ r ≡ stoppedOf answer ⌝ }
+{
+    match answer {
+        NextAnswer::Unmet(fault, step) => ItemAnswer::Failed(fault, step),
+        NextAnswer::Met(_, step) => ItemAnswer::Done(step),
+    }
 }
