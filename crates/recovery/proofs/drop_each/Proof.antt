@@ -1,80 +1,68 @@
+use borrow.Author.Needs.{needs}
+use Rattle.recovery.proofs.Sweeping.{Dropping, dropping-start, dropped-all, drop-failed, drop-on, drop-less, four-inside}
+use Rattle.recovery.proofs.Entries.{copied-length}
+use Prim.Native.Nat.{ℕ, _+_, _-_, _≤_}
+use mathlib.Core.Path.{_≡_, refl, sym, ap}
+use native.Mathlib.Omega.{arith}
+use lib.ListN.{length}
+use Rattle.definition.specs.Region.{items}
+use Rattle.definition.specs.Recovery.{journalKeys}
 use Rattle.recovery.proofs.drop_each.Statement.{statement}
 use Rattle.recovery.proofs.drop_each.Tie as tie
-use Rattle.recovery.proofs.drop_each.Reads as reads
-use Rattle.recovery.proofs.drop_each.Lts as lts
-use Rattle.items.proofs.remove.Reads as remove-reads
-use Rattle.recovery.proofs.copied.Reads as copied-reads
-use Rattle.region.proofs.first_journal.Reads as first-journal-reads
 
 abbrev Inv-loop : tie.InvT-loop
-Inv-loop region₀ script step₀ region step = ?
+Inv-loop region₀ script step₀ region step = (length region ≡ length region₀) × Dropping region₀ script step₀ region step
 
 abbrev μ-loop : tie.MeasureT-loop
-μ-loop region₀ script step₀ region step = ?
+μ-loop region₀ script step₀ region step = length (journalKeys (items region))
 
--- src/lib.rt:148:5
 loop-holds : tie.Need-loop-holds Inv-loop μ-loop
-loop-holds c = ?
+loop-holds c = (refl, dropping-start (c .before .before .pre))
 
--- src/lib.rt:149:13
 first-journal-requires : tie.Need-first-journal-requires Inv-loop μ-loop
-first-journal-requires c κs = ?
+first-journal-requires c κs = search needs
 
--- src/lib.rt:150:22
 enum-known-spot : tie.Need-enum-known-spot Inv-loop μ-loop
-enum-known-spot c = ?
+enum-known-spot c = search needs
 
--- src/lib.rt:151:13
 enum-told : tie.Need-enum-told Inv-loop μ-loop
-enum-told c = ?
+enum-told c = search needs
 
--- src/lib.rt:151:13
 same-length : tie.Need-same-length Inv-loop μ-loop
-same-length c = ?
+same-length c = search needs
 
--- src/lib.rt:151:13
 returns : tie.Need-returns Inv-loop μ-loop
-returns c = ?
+returns c = dropped-all (c .before .before .before .before .loop .inv .1) (c .before .before .first-journal .ensures) (c .enum-told .given .1)
 
--- src/lib.rt:153:19
 copied-requires : tie.Need-copied-requires Inv-loop μ-loop
-copied-requires c κs = ?
+copied-requires c κs = let i = four-inside (c .before .before .before .before .first-journal .ensures) (c .before .before .spot .given .1) in (i .within, omega arith)
 
--- src/lib.rt:154:53
 array-share-prefix-key : tie.Need-array-share-prefix-key Inv-loop μ-loop
-array-share-prefix-key c = ?
+array-share-prefix-key c = let i = four-inside (c .before .before .before .before .before .before .first-journal .ensures) (c .before .before .before .before .spot .given .1) in omega arith
 
--- src/lib.rt:154:53
 slice-aggregate-remove : tie.Need-slice-aggregate-remove Inv-loop μ-loop
-slice-aggregate-remove c = ?
+slice-aggregate-remove c = let i = four-inside (c .before .before .before .before .before .before .before .first-journal .ensures) (c .before .before .before .before .before .spot .given .1) in copied-length _ _ _ _ (i .within) (c .before .before .copied .ensures)
 
--- src/lib.rt:154:13
 remove-requires : tie.Need-remove-requires Inv-loop μ-loop
-remove-requires c κs = ?
+remove-requires c κs = search needs
 
--- src/lib.rt:155:30
 enum-known-removed : tie.Need-enum-known-removed Inv-loop μ-loop
-enum-known-removed c = ?
+enum-known-removed c = search needs
 
--- src/lib.rt:156:13
 enum-told-2 : tie.Need-enum-told-2 Inv-loop μ-loop
-enum-told-2 c = ?
+enum-told-2 c = search needs
 
--- src/lib.rt:156:13
 same-length-2 : tie.Need-same-length-2 Inv-loop μ-loop
-same-length-2 c = ?
+same-length-2 c = search needs
 
--- src/lib.rt:156:13
 returns-2 : tie.Need-returns-2 Inv-loop μ-loop
-returns-2 c = ?
+returns-2 c = drop-failed (c .before .before .before .before .before .before .before .before .before .before .before .before .before .before .loop .inv .1) (c .before .before .before .before .before .before .before .before .before .before .before .before .first-journal .ensures) (c .before .before .before .before .before .before .before .before .before .before .spot .given .1) (c .before .before .before .before .before .before .before .copied .ensures) (c .before .before .before .before .remove .ensures) (c .enum-told2 .given .1)
 
--- src/lib.rt:148:5
 loop-less : tie.Need-loop-less Inv-loop μ-loop
-loop-less c = ?
+loop-less c = drop-less (c .before .before .before .before .before .before .before .before .before .before .before .before .before .before .before .loop .inv .1) (c .before .before .before .before .before .before .before .before .before .before .before .before .before .first-journal .ensures) (c .before .before .before .before .before .before .before .before .before .before .before .spot .given .1) (c .before .before .before .before .before .before .before .before .copied .ensures) (c .before .before .before .before .before .remove .ensures) (c .before .removed .given .1)
 
--- src/lib.rt:148:5
 loop-again : tie.Need-loop-again Inv-loop μ-loop
-loop-again c = ?
+loop-again c = (cc, drop-on (c .before .before .before .before .before .before .before .before .before .before .before .before .before .before .before .loop .inv .1) (c .before .before .before .before .before .before .before .before .before .before .before .before .before .first-journal .ensures) (c .before .before .before .before .before .before .before .before .before .before .before .spot .given .1) (c .before .before .before .before .before .before .before .before .copied .ensures) (c .before .before .before .before .before .remove .ensures) (c .before .removed .given .1))
 
 pub drop-each-spec : {M : Type 1} → statement M
 drop-each-spec =

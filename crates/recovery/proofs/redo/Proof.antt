@@ -1,85 +1,66 @@
+use Rattle.recovery.proofs.Entries.{redo-failed, redo-absent, redo-present, copied-length}
+use Rattle.items.proofs.Along.{fetch-inside}
+use Prim.Native.Nat.{ℕ, _+_, _-_, _≤_}
+use mathlib.Core.Path.{_≡_, refl, sym, ap}
+use native.Mathlib.Omega.{arith}
+use lib.ListN.{length}
 use borrow.Author.Needs.{needs}
 use Rattle.recovery.proofs.redo.Statement.{statement}
 use Rattle.recovery.proofs.redo.Tie as tie
-use Rattle.recovery.proofs.redo.Reads as reads
-use Rattle.recovery.proofs.redo.Lts as lts
-use Rattle.codec.proofs.journal_key.Reads as journal-key-reads
-use Rattle.items.proofs.fetch.Reads as fetch-reads
-use Rattle.recovery.proofs.copied.Reads as copied-reads
-use Rattle.recovery.proofs.redo_entry.Reads as redo-entry-reads
-use Rattle.recovery.proofs.unfetched.Reads as unfetched-reads
 
--- src/lib.rt:111:23
 journal-key-requires : tie.Need-journal-key-requires
 journal-key-requires c κs = search needs
 
--- src/lib.rt:112:48
 slice-aggregate-fetch : tie.Need-slice-aggregate-fetch
 slice-aggregate-fetch c = search needs
 
--- src/lib.rt:112:9
 fetch-requires : tie.Need-fetch-requires
 fetch-requires c κs = search needs
 
--- src/lib.rt:113:26
 enum-known-fetched : tie.Need-enum-known-fetched
 enum-known-fetched c = search needs
 
--- src/lib.rt:114:9
 enum-told : tie.Need-enum-told
 enum-told c = search needs
 
--- src/lib.rt:114:9
 unfetched-requires : tie.Need-unfetched-requires
 unfetched-requires c κs = search needs
 
--- src/lib.rt:114:9
 same-length : tie.Need-same-length
 same-length c = search needs
 
--- src/lib.rt:114:9
 returns : tie.Need-returns
-returns c = ?
+returns c = redo-failed _ (c .before .before .before .before .before .before .journal-key .ensures) (c .before .before .before .before .before .before .before .before .before .pre) (c .before .before .before .fetch .ensures) (c .before .enum-told .given .1) (c .unfetched .ensures)
 
--- src/lib.rt:116:18
 enum-known-spot : tie.Need-enum-known-spot
 enum-known-spot c = search needs
 
--- src/lib.rt:117:9
 enum-told-2 : tie.Need-enum-told-2
 enum-told-2 c = search needs
 
--- src/lib.rt:117:9
 same-length-2 : tie.Need-same-length-2
 same-length-2 c = search needs
 
--- src/lib.rt:117:9
 returns-2 : tie.Need-returns-2
-returns-2 c = ?
+returns-2 c = redo-absent _ (c .before .before .before .before .before .before .before .before .journal-key .ensures) (c .before .before .before .before .before .before .before .before .before .before .before .pre) (c .before .before .before .before .before .fetch .ensures) (c .before .before .before .fetched .given .1) (c .enum-told2 .given .1)
 
--- src/lib.rt:119:17
 copied-requires : tie.Need-copied-requires
-copied-requires c κs = ?
+copied-requires c κs = let i = fetch-inside (c .before .before .before .before .before .before .before .fetch .ensures) (c .before .before .before .before .before .fetched .given .1) (c .before .before .spot .given .1) in (i .within, omega arith)
 
--- src/lib.rt:120:39
 array-share-prefix-entry : tie.Need-array-share-prefix-entry
-array-share-prefix-entry c = ?
+array-share-prefix-entry c = let i = fetch-inside (c .before .before .before .before .before .before .before .before .before .fetch .ensures) (c .before .before .before .before .before .before .before .fetched .given .1) (c .before .before .before .before .spot .given .1) in omega arith
 
--- src/lib.rt:120:39
 slice-aggregate-redo-entry : tie.Need-slice-aggregate-redo-entry
-slice-aggregate-redo-entry c = ?
+slice-aggregate-redo-entry c = let i = fetch-inside (c .before .before .before .before .before .before .before .before .before .before .fetch .ensures) (c .before .before .before .before .before .before .before .before .fetched .given .1) (c .before .before .before .before .before .spot .given .1) in copied-length _ _ _ _ (i .within) (c .before .before .copied .ensures)
 
--- src/lib.rt:120:5
 redo-entry-requires : tie.Need-redo-entry-requires
 redo-entry-requires c κs = search needs
 
--- src/lib.rt:107:1
 same-length-3 : tie.Need-same-length-3
 same-length-3 c = search needs
 
--- src/lib.rt:107:1
 returns-3 : tie.Need-returns-3
-returns-3 c = ?
+returns-3 c = redo-present _ (c .before .before .before .before .before .before .before .before .before .before .before .before .before .before .before .before .journal-key .ensures) (c .before .before .before .before .before .before .before .before .before .before .before .before .before .before .before .before .before .before .before .pre) (c .before .before .before .before .before .before .before .before .before .before .before .before .before .fetch .ensures) (c .before .before .before .before .before .before .before .before .before .before .before .fetched .given .1) (c .before .before .before .before .before .before .before .before .spot .given .1) (c .before .before .before .before .before .copied .ensures) (c .before .before .redo-entry .ensures)
 
 pub redo-spec : {M : Type 1} → statement M
 redo-spec =

@@ -1,72 +1,60 @@
+use borrow.Author.Needs.{needs}
+use Rattle.recovery.proofs.Replaying.{Replaying, replay-start, replay-on, replay-failed, replay-end}
+use Prim.Native.Nat.{ℕ, _+_, _-_, _≤_}
+use mathlib.Core.Path.{_≡_, refl, sym, ap}
+use native.Mathlib.Omega.{arith}
+use lib.ListN.{length}
+use Rattle.definition.specs.Codec.{markerKey}
 use Rattle.recovery.proofs.replay.Statement.{statement}
 use Rattle.recovery.proofs.replay.Tie as tie
-use Rattle.recovery.proofs.replay.Reads as reads
-use Rattle.recovery.proofs.replay.Lts as lts
-use Rattle.codec.proofs.marker_key.Reads as marker-key-reads
-use Rattle.items.proofs.remove.Reads as remove-reads
-use Rattle.recovery.proofs.redo.Reads as redo-reads
 
 abbrev Inv-loop : tie.InvT-loop
-Inv-loop region₀ script count step₀ index₀ region step index = ?
+Inv-loop region₀ script count step₀ index₀ region step index = (index ≤ count) × (length region ≡ length region₀) × Replaying count region₀ script step₀ index region step
 
 abbrev μ-loop : tie.MeasureT-loop
-μ-loop region₀ script count step₀ index₀ region step index = ?
+μ-loop region₀ script count step₀ index₀ region step index = count - index
 
--- src/lib.rt:130:5
 loop-holds : tie.Need-loop-holds Inv-loop μ-loop
-loop-holds c = ?
+loop-holds c = (search needs, refl, replay-start _ (c .before .before .pre))
 
--- src/lib.rt:131:13
 redo-requires : tie.Need-redo-requires Inv-loop μ-loop
-redo-requires c κs = ?
+redo-requires c κs = search needs
 
--- src/lib.rt:132:30
 enum-known-redone : tie.Need-enum-known-redone Inv-loop μ-loop
-enum-known-redone c = ?
+enum-known-redone c = search needs
 
--- src/lib.rt:133:13
 enum-told : tie.Need-enum-told Inv-loop μ-loop
-enum-told c = ?
+enum-told c = search needs
 
--- src/lib.rt:133:13
 same-length : tie.Need-same-length Inv-loop μ-loop
-same-length c = ?
+same-length c = search needs
 
--- src/lib.rt:133:13
 returns : tie.Need-returns Inv-loop μ-loop
-returns c = ?
+returns c = replay-failed _ (c .before .before .before .before .before .before .before .loop .index) (c .before .before .before .before .before .before .before .loop .inv .2) (c .before .before .before .before .before .before .loop-test .taken) (c .before .before .before .before .redo .ensures) (c .enum-told .given .1)
 
--- src/lib.rt:136:9
 add-index : tie.Need-add-index Inv-loop μ-loop
-add-index c = ?
+add-index c = search needs
 
--- src/lib.rt:130:5
 loop-less : tie.Need-loop-less Inv-loop μ-loop
-loop-less c = ?
+loop-less c = search needs
 
--- src/lib.rt:130:5
 loop-again : tie.Need-loop-again Inv-loop μ-loop
-loop-again c = ?
+loop-again c = (search needs, cc, replay-on _ (c .before .before .before .before .before .before .before .before .loop .index) (c .before .before .before .before .before .before .before .before .loop .inv .2) (c .before .before .before .before .before .before .before .loop-test .taken) (c .before .before .before .before .before .redo .ensures) (c .before .redone .given .1))
 
--- src/lib.rt:138:22
 marker-key-requires : tie.Need-marker-key-requires Inv-loop μ-loop
-marker-key-requires c κs = ?
+marker-key-requires c κs = search needs
 
--- src/lib.rt:139:35
 slice-aggregate-remove : tie.Need-slice-aggregate-remove Inv-loop μ-loop
-slice-aggregate-remove c = ?
+slice-aggregate-remove c = search needs
 
--- src/lib.rt:139:5
 remove-requires : tie.Need-remove-requires Inv-loop μ-loop
-remove-requires c κs = ?
+remove-requires c κs = search needs
 
--- src/lib.rt:124:1
 same-length-2 : tie.Need-same-length-2 Inv-loop μ-loop
-same-length-2 c = ?
+same-length-2 c = search needs
 
--- src/lib.rt:124:1
 returns-2 : tie.Need-returns-2 Inv-loop μ-loop
-returns-2 c = ?
+returns-2 c = replay-end _ (c .before .before .before .before .before .before .before .loop .index) (c .before .before .before .before .before .before .before .loop .inv .2) (c .before .before .before .before .before .before .before .loop .inv .0) (c .before .before .before .before .before .before .loop-test .left) (c .before .before .before .before .before .marker-key .ensures) (c .before .before .remove .ensures)
 
 pub replay-spec : {M : Type 1} → statement M
 replay-spec =

@@ -1,0 +1,4 @@
+pub mod Entries
+pub mod Replaying
+pub mod Sweeping
+pub mod Recovering
