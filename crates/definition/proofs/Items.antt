@@ -3,13 +3,13 @@ use mathlib.Core.Path.{_≡_, refl, sym, ap, _∙_, subst}
 use mathlib.Core.Logic.{_≢_}
 use mathlib.Core.Bool.{Bool, true, false}
 use mathlib.Core.List.{List, [], _∷_, _++_}
-use mathlib.Core.Option.{Option, none, some}
-use Prim.Native.Nat.{ℕ, _+_, _≤_}
+use mathlib.Core.Option.{none, some}
+use Prim.Native.Nat.{_+_, _≤_}
 use native.Mathlib.Omega.{arith}
 use lib.ListN.{length}
 use Rattle.definition.specs.Tools.{Bytes, pick, eqs}
 use Rattle.definition.specs.Region.{Item, item, hasKey, has, distinct, fetched, removed, stored, spanOf, allowed, used}
-use Rattle.definition.proofs.Choices.{bool, true≢false, eqs-true, eqs-refl, eqs-false, eqs-apart}
+use Rattle.definition.proofs.Choices.{bool, true≢false, eqs-true, eqs-refl, eqs-false}
 
 neither : (p q : Bool) → pick p true q ≡ false → (p ≡ false) × (q ≡ false)
 unfolding pick

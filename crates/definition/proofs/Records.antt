@@ -2,15 +2,16 @@
 -- read back from bytes that begin with a record. The laws below `headOf` are the only ones that know the header's layout.
 use mathlib.Core.Path.{_≡_, refl, sym, ap, ap₂, _∙_}
 use mathlib.Core.Bool.{Bool, true, false}
-use mathlib.Core.List.{List, [], _∷_, _++_, append-assoc}
-use Prim.Native.Nat.{ℕ, zero, suc, _+_, _-_, _*_, _/_, _%_, _≤_, _<_}
+use mathlib.Core.List.{[], _∷_, _++_, append-assoc}
+use Prim.Native.Nat.{ℕ, zero, suc, _+_, _-_, _/_, _%_, _≤_, _<_}
 use native.Mathlib.Omega.{arith}
 use borrow.Author.Tests.{le-leb, lt-leb, leb-true, leb-false, eqb-true, eqb-false}
 use lib.Dec.{eqb, leb, lit<}
-use lib.ListN.{length, getD, take, drop, replicate, length-append, length-drop, length-take, take-append-drop, drop-of-length-le}
+use lib.ListN.{length, getD, take, drop, replicate, length-append, length-drop, length-take, take-append-drop}
 use lib.Seq.{getD-take, drop-drop, take-append-seam, drop-append-seam, drop-at, take-all}
 use Rattle.definition.specs.Tools.{Bytes, pick, eqs}
-use Rattle.definition.specs.Region.{Item, item, le16, le32, le16At, headSize, size, span, spanOf, header, itemKind, recordOf, keyLimit, itemLimit, allowed, blank, agrees, keySize, valueSize, headOf, itemAt}
+use Rattle.definition.specs.Region.{Item, item, le16, le32, le16At, headSize, size, span, spanOf, header, itemKind, recordOf, keyLimit, itemLimit}
+use Rattle.definition.specs.Region.{allowed, blank, agrees, keySize, valueSize, headOf, itemAt}
 use Rattle.definition.specs.declared.Head.{Head}
 use Rattle.definition.specs.declared.Head.the-variants.{Record, End, Bad}
 use Rattle.definition.proofs.Choices.{pick-yes, pick-no, both, bool, eqs-true, eqs-refl, eqs-false}

@@ -15,7 +15,8 @@ use Rattle.definition.specs.declared.Fault.the-variants.{FullStorage}
 use Rattle.definition.specs.declared.Verdict.{Verdict}
 use Rattle.definition.specs.declared.Verdict.the-variants.{Pass, Fail}
 use Rattle.region.specs.Places.{spotted, Visit, Fetched}
-use Rattle.region.specs.Changes.{Now, storedBy, Stores}
+use Rattle.region.specs.Changes.{Now, Stores}
+use Rattle.region.proofs.Answers.{stored-done, stored-full}
 use Rattle.region.specs.declared.Stored.{Stored}
 use Rattle.region.specs.declared.Stored.the-variants as R
 use Rattle.region.specs.declared.Spot.{Spot}
@@ -73,26 +74,16 @@ module _ (f : Bytes → Bool) (g : Bytes → Bytes) (s script : Bytes) (t : Step
 
 -- ---- the two calls that write, by their fate
 
-done-room : (b : Bool) → storedBy b ≡ R.Done → b ≡ true
-unfolding storedBy
-done-room true e = refl
-done-room false e = cc
-
-full-room : (b : Bool) → storedBy b ≡ R.Full → b ≡ false
-unfolding storedBy
-full-room true e = cc
-full-room false e = refl
-
 module _ (i : Item) {s script : Bytes} {t : Step} {v : Verdict} {n : Step} (ev : v ≡ fate script t) (en : n ≡ stepped script t) where
   module _ {b : Bytes} {a : Stored} (h : Stores i s b a) where
     pub store-done : v ≡ Pass → a ≡ R.Done → Ran (store flat i) s script t b (Done n)
     unfolding store
-    store-done p e = wrote (roomIn i) (storeIn i) s script t ev en p (done-room _ (sym (h .answer) ∙ e)) (h .now)
+    store-done p e = wrote (roomIn i) (storeIn i) s script t ev en p (stored-done h e) (h .now)
 
     pub store-full : v ≡ Pass → a ≡ R.Full → Ran (store flat i) s script t b (Failed FullStorage n)
     unfolding store
     store-full p e =
-        let r : roomIn i s ≡ false = full-room _ (sym (h .answer) ∙ e) in
+        let r : roomIn i s ≡ false = stored-full h e in
         full (roomIn i) (storeIn i) s script t ev en p r (record { fine = h .now .fine; is = h .now .is ∙ full-same i s r })
 
     pub store-failed-on : {x : Fault} {e : Bool} → v ≡ Fail x e → e ≡ true → Ran (store flat i) s script t b (Failed x n)

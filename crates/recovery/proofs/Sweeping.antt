@@ -15,8 +15,9 @@ use Rattle.definition.proofs.Items.{has-its-key, key-of}
 use Rattle.definition.proofs.Image.{remove-items}
 use Rattle.definition.specs.declared.Step.{Step}
 use Rattle.definition.specs.declared.Fault.{Fault}
-use Rattle.region.specs.Places.{Met, Visit, spotted, FirstJournal, firstOf, FourIn, FourInside}
-use Rattle.region.proofs.Walks.{met-item, met-nothing}
+use Rattle.region.specs.Places.{Met, Visit, spotted, FirstJournal, firstOf}
+use Rattle.region.proofs.Answers.{met-item, met-nothing}
+use Rattle.region.proofs.Journals.{no-keys, keys-after}
 use Rattle.region.specs.declared.Spot.{Spot}
 use Rattle.region.specs.declared.Spot.the-variants as S
 use Rattle.region.specs.declared.Next.{Next}
@@ -77,47 +78,16 @@ module _ {s script : Bytes} {t : Step} (at : ℕ) {t1 : Step} (l : Iterating s s
 
 -- ---- dropping
 
-first-none : (ks : List Bytes) → firstOf ks ≡ none → ks ≡ []
-unfolding firstOf
-first-none [] e = refl
-first-none (k ∷ ks) e = let z : _≡_ {A = ℕ} 0 1 = cc in absurd (omega arith)
-
-first-is-journal : (is : List Item) (k : Bytes) → firstOf (journalKeys is) ≡ some k → isJournal k ≡ true
-unfolding journalKeys firstOf
-first-is-journal [] k e = let z : _≡_ {A = ℕ} 0 1 = cc in absurd (omega arith)
-first-is-journal (i ∷ is) k e =
-    bool (isJournal (i .key))
-    (λ y. let z : some (i .key) ≡ some k = sym (ap firstOf (pick-yes _ _ y)) ∙ e in let w : i .key ≡ k = cc in ap isJournal (sym w) ∙ y)
-    (λ n. first-is-journal is k (sym (ap firstOf (pick-no _ _ n)) ∙ e))
-
-keys-some : (is : List Item) (k : Bytes) → firstOf (journalKeys is) ≡ some k → journalKeys is ≡ k ∷ journalKeys (removed k is)
-unfolding journalKeys firstOf removed
-keys-some [] k e = let z : _≡_ {A = ℕ} 0 1 = cc in absurd (omega arith)
-keys-some (i ∷ is) k e =
-    bool (isJournal (i .key))
-    (λ y.
-    let z : some (i .key) ≡ some k = sym (ap firstOf (pick-yes _ _ y)) ∙ e in
-    let w : i .key ≡ k = cc in
-    pick-yes _ _ y ∙ ap (λ x. x ∷ journalKeys is) w ∙ ap (λ l. k ∷ journalKeys l) (sym (pick-yes _ _ (has-its-key k i w))))
-    (λ n.
-    let z : firstOf (journalKeys is) ≡ some k = sym (ap firstOf (pick-no _ _ n)) ∙ e in
-    let q : hasKey k i ≡ false =
-    bool (hasKey k i) (λ t. let u : true ≡ false = sym (first-is-journal is k z) ∙ ap isJournal (sym (key-of k i t)) ∙ n in cc) (λ t. t) in
-    pick-no _ _ n ∙ keys-some is k z ∙ ap (λ l. k ∷ l) (sym (ap journalKeys (pick-no _ _ q) ∙ pick-no _ _ n)))
-
 abbrev pub Dropping : Bytes → Bytes → Step → Bytes → Step → Type 0
 Dropping s script t b t1 = Left (dropEach flat (journalKeys (items s))) s script t (dropEach flat (journalKeys (items b))) b t1
 
 pub dropping-start : {s script : Bytes} {t : Step} → good s ≡ true → Dropping s script t s t
 dropping-start g = left-start refl g
 
-pub four-inside : {b : Bytes} {x : Spot} {at n : ℕ} → FirstJournal b x → x ≡ S.At at n → FourInside b at n
-four-inside {b} h e = subst (FourIn b) e (h .inside)
-
 module _ {s script : Bytes} {t : Step} {b : Bytes} {t1 : Step} (l : Dropping s script t b t1) {x : Spot} (h : FirstJournal b x) where
   pub dropped-all : x ≡ S.Nothing → Ran (dropEach flat (journalKeys (items s))) s script t b (Done t1)
   unfolding dropEach spotted
-  dropped-all e = done-ran (left-end (left-as l (ap (dropEach flat) (first-none (journalKeys (items b)) (sym (h .is) ∙ ap (spotted b) e)))) (runs-ret (l .fine)))
+  dropped-all e = done-ran (left-end (left-as l (ap (dropEach flat) (no-keys (items b) (sym (h .is) ∙ ap (spotted b) e)))) (runs-ret (l .fine)))
 
   module _ {at n : ℕ} (e : x ≡ S.At at n) {k : Bytes} (w : k ≡ take n (drop at b)) {b2 : Bytes} {r : ItemAnswer} (a : Ran (remove flat k) b script t1 b2 r) where
     first : firstOf (journalKeys (items b)) ≡ some k
@@ -126,7 +96,7 @@ module _ {s script : Bytes} {t : Step} {b : Bytes} {t1 : Step} (l : Dropping s s
 
     rest-drop : Left (dropEach flat (journalKeys (items s))) s script t (remove flat k ▷ λ x. dropEach flat (journalKeys (removed k (items b)))) b t1
     unfolding dropEach
-    rest-drop = left-as l (ap (dropEach flat) (keys-some (items b) k first))
+    rest-drop = left-as l (ap (dropEach flat) (keys-after (items b) k first))
 
     pub drop-failed : {f : Fault} {t2 : Step} → r ≡ Failed f t2 → Ran (dropEach flat (journalKeys (items s))) s script t b2 r
     drop-failed q = runs-ran r (left-end rest-drop (ran-runs (seq-failed (λ x. dropEach flat (journalKeys (removed k (items b)))) a q)))
@@ -140,7 +110,7 @@ module _ {s script : Bytes} {t : Step} {b : Bytes} {t1 : Step} (l : Dropping s s
         (ap (λ (m : List Item). dropEach flat (journalKeys m)) (sym (items-left q)))
 
     pub drop-less : {t2 : Step} → r ≡ Done t2 → length (journalKeys (items b2)) < length (journalKeys (items b))
-    drop-less q = omega (arith, ap (λ (m : List Item). length (journalKeys m)) (items-left q), ap length (keys-some (items b) k first))
+    drop-less q = omega (arith, ap (λ (m : List Item). length (journalKeys m)) (items-left q), ap length (keys-after (items b) k first))
 
 -- ---- what is left of a journal
 

@@ -1,25 +1,24 @@
 -- What `remove` and `store` make of a good image: document 01's `removeIn` and `storeIn`, from the bytes that they write.
-use mathlib.Core.Path.{_≡_, refl, sym, ap, ap₂, _∙_}
-use mathlib.Core.Bool.{Bool, true, false}
+use mathlib.Core.Path.{_≡_, sym, ap, ap₂, _∙_}
+use mathlib.Core.Bool.{true, false}
 use mathlib.Core.List.{List, [], _∷_, _++_, append-assoc, append-nil}
 use Prim.Native.Nat.{ℕ, zero, suc, _+_, _-_, _≤_, _<_}
 use native.Mathlib.Nat.{zero-add}
 use native.Mathlib.Omega.{arith}
-use lib.Dec.{leb}
 use borrow.Author.Tests.{le-leb, lt-leb}
-use lib.ListN.{length, take, drop, replicate, replicate-append-replicate, length-replicate, length-append}
+use lib.ListN.{length, drop, replicate, replicate-append-replicate}
 use lib.Seq.{take-append-seam, drop-append-seam, drop-append-add}
 use Rattle.definition.specs.Tools.{Bytes}
 use Rattle.definition.specs.Region.{Item, removed, stored, span, spanOf, recordOf, allowed, good, items, used, records, render, room, removeIn, roomIn, storeIn}
-use Rattle.definition.proofs.Choices.{pick-yes, pick-no}
+use Rattle.definition.proofs.Choices.{pick-yes}
 use Rattle.definition.proofs.Records.{record-length}
-use Rattle.definition.proofs.Items.{absent, used-append, used-stored}
+use Rattle.definition.proofs.Items.{absent, used-append}
 use Rattle.definition.proofs.Image.{records-length, records-append, used-fits, good-is-rendered, remove-good, store-good, store-room, store-full}
 use Rattle.region.specs.Places.{placeOf}
 use Rattle.region.specs.Changes.{written, without, Now, Stores, storedBy}
 use Rattle.region.specs.declared.Found.the-variants as F
 use Rattle.region.specs.declared.Stored.the-variants.{Done, Full}
-use Rattle.region.proofs.Finding.{Split, split, nowhere}
+use Rattle.region.proofs.Finding.{split, nowhere}
 
 -- ---- `remove`
 

@@ -1,12 +1,13 @@
 -- Loops that write a run of bytes, one a turn, and runs that are written one behind the other.
 use mathlib.Core.Path.{_≡_, refl, sym, ap, ap₂, _∙_}
-use mathlib.Core.List.{List, [], _∷_, _++_, append-assoc, append-nil}
+use mathlib.Core.List.{_++_, append-assoc, append-nil}
 use Prim.Native.Nat.{ℕ, _+_, _-_, _≤_, _<_}
 use native.Mathlib.Nat.{add-assoc, zero-add}
 use native.Mathlib.Numerals.{add-one}
 use native.Mathlib.Omega.{arith}
-use lib.ListN.{length, getD, take, drop, set, replicate, length-set, length-append, length-drop, length-take, length-replicate, drop-of-length-le}
-use lib.Seq.{paste, paste-suc, paste-zero, length-paste, length-paste-head, take-paste, getD-append-add, getD-drop, take-all, take-length, length-take-le, take-at, drop-append-add, drop-drop}
+use lib.ListN.{length, getD, take, drop, set, replicate, length-set, length-append, length-drop, length-replicate, drop-of-length-le}
+use lib.Seq.{paste, paste-suc, paste-zero, length-paste, length-paste-head, take-paste}
+use lib.Seq.{getD-append-add, getD-drop, take-all, take-length, length-take-le, take-at, drop-append-add, drop-drop}
 use Rattle.definition.specs.Tools.{Bytes}
 use Rattle.definition.specs.Region.{item, headSize, spanOf, header, itemKind, recordOf}
 use Rattle.definition.specs.Codec.{laid}
@@ -78,10 +79,6 @@ cut-is s t u at n h e f =
     ∙ append-assoc (take at s) (drop (at + n) s) (replicate n 255)
 
 -- ---- runs written one behind the other
-
-pub length-written : (s : Bytes) (at : ℕ) (e : Bytes) → at + length e ≤ length s → length (written s at e) ≡ length s
-unfolding written
-length-written s at e h = simp (length-append, length-take, length-drop) (omega arith)
 
 written-then : (s : Bytes) (at n : ℕ) (a b : Bytes) → length a ≡ n → at + n ≤ length s → written (written s at a) (at + n) b ≡ written s at (a ++ b)
 unfolding written

@@ -1,22 +1,21 @@
 -- Where the record with a key stands: `placeOf` splits the items there, so that a place becomes a value, and a removal knows what stays.
-use mathlib.Core.Path.{_≡_, refl, sym, ap, ap₂, _∙_, subst}
-use mathlib.Core.Bool.{Bool, true, false}
+use mathlib.Core.Path.{_≡_, refl, sym, ap, ap₂, _∙_}
+use mathlib.Core.Bool.{true, false}
 use mathlib.Core.List.{List, [], _∷_, _++_, append-assoc}
-use mathlib.Core.Option.{Option, none, some}
-use Prim.Native.Nat.{ℕ, _+_, _-_, _≤_}
-use native.Mathlib.Nat.{zero-add, add-zero, add-assoc}
+use mathlib.Core.Option.{some}
+use Prim.Native.Nat.{ℕ, _+_}
+use native.Mathlib.Nat.{zero-add, add-zero}
 use native.Mathlib.Omega.{arith}
-use lib.ListN.{length, take, drop, length-append}
+use lib.ListN.{length, drop}
 use lib.Seq.{drop-at}
 use Rattle.definition.specs.Tools.{Bytes, pick}
 use Rattle.definition.specs.Region.{Item, item, hasKey, has, distinct, fetched, removed, headSize, span, spanOf, recordOf, headOf, itemAt, items, used, records, look}
 use Rattle.definition.specs.declared.Head.the-variants.{Record}
-use Rattle.definition.proofs.Choices.{pick-yes, pick-no, bool, true≢false}
+use Rattle.definition.proofs.Choices.{pick-yes, pick-no, bool}
 use Rattle.definition.proofs.Records.{head-of-record, item-of-record}
 use Rattle.definition.proofs.Items.{key-of, absent, used-append, allowed-right}
-use Rattle.definition.proofs.Image.{View, view, records-length, records-append}
+use Rattle.definition.proofs.Image.{view, records-length, records-append}
 use Rattle.region.specs.Places.{keyAt, valueAt, Met, placeOf, spotted, Fetched}
-use Rattle.region.specs.declared.Found.{Found}
 use Rattle.region.specs.declared.Found.the-variants as F
 use Rattle.region.specs.declared.Spot.the-variants as S
 use Rattle.region.proofs.Walks.{met, item-there}

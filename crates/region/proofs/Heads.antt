@@ -1,16 +1,14 @@
 -- What `head_at` finds, a law for each of its answers, over the numbers that it reads at a place.
-use mathlib.Core.Path.{_≡_, refl, sym, ap, ap₂, _∙_}
+use mathlib.Core.Path.{_≡_, sym, ap, ap₂, _∙_}
 use mathlib.Core.Bool.{Bool, true, false, not}
-use mathlib.Core.List.{List, [], _∷_}
 use Prim.Native.Nat.{ℕ, _+_, _-_, _≤_, _<_}
 use native.Mathlib.Nat.{add-sub-cancel-left}
-use native.Mathlib.Omega.{arith}
 use lib.Dec.{leb, ltb}
 use borrow.Author.Tests.{le-leb, lt-leb, ltb-true, ltb-false, not-true, not-false}
 use lib.ListN.{length, getD, take, drop, length-drop}
 use lib.Seq.{getD-drop}
 use Rattle.definition.specs.Tools.{Bytes, pick, eqs}
-use Rattle.definition.specs.Region.{le16At, headSize, span, header, itemKind, allowed, blank, agrees, keySize, valueSize, headOf}
+use Rattle.definition.specs.Region.{le16At, headSize, span, header, itemKind, allowed, blank, agrees, headOf}
 use Rattle.definition.specs.declared.Head.the-variants.{Record, End, Bad}
 use Rattle.definition.proofs.Choices.{pick-yes, pick-no, bool, true≢false}
 use Rattle.definition.proofs.Records.{head-end, head-short, head-tests}

@@ -2,6 +2,7 @@
 pub mod Runs
 pub mod Heads
 pub mod Walks
+pub mod Answers
 pub mod Finding
 pub mod Copying
 pub mod Journals

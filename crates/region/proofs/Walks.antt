@@ -1,9 +1,9 @@
 -- A walk over the records, one a turn: what a visit of a place says, and what it makes of the items that are left.
-use mathlib.Core.Path.{_≡_, refl, sym, ap, ap₂, _∙_, subst}
+use mathlib.Core.Path.{_≡_, refl, sym, ap, ap₂, _∙_}
 use mathlib.Core.Logic.{⊎-elim}
 use mathlib.Core.Bool.{Bool, true, false}
 use mathlib.Core.List.{List, [], _∷_, _++_, append-assoc, append-nil}
-use Prim.Native.Nat.{ℕ, suc, _+_, _-_, _≤_, _<_}
+use Prim.Native.Nat.{ℕ, _+_}
 use native.Mathlib.Nat.{add-assoc, add-zero}
 use native.Mathlib.Omega.{arith}
 use types.Run.{OneOf}
@@ -11,7 +11,7 @@ use denote.Enum.Declared.{tagOf}
 use lib.ListN.{length, take, drop, length-take, length-drop}
 use lib.Seq.{drop-drop}
 use Rattle.definition.specs.Tools.{Bytes, pick, eqs}
-use Rattle.definition.specs.Region.{Item, item, hasKey, has, distinct, headSize, span, spanOf, headOf, itemAt, items, whole, used}
+use Rattle.definition.specs.Region.{Item, item, hasKey, headSize, span, spanOf, headOf, itemAt, items, whole, used}
 use Rattle.definition.specs.declared.Head.{Head}
 use Rattle.definition.specs.declared.Head.the-variants.{Record, End, Bad}
 use Rattle.definition.proofs.Head.{the-type}
@@ -19,10 +19,7 @@ use Rattle.definition.proofs.Choices.{pick-yes, pick-no}
 use Rattle.definition.proofs.Records.{span-holds, bounded, record-sound}
 use Rattle.definition.proofs.Items.{used-append}
 use Rattle.definition.proofs.Image.{items-record, items-end, items-bad, whole-record}
-use Rattle.region.specs.Places.{keyAt, valueAt, Met, AtPlace, Visit, Walk, placeOf}
-use Rattle.region.specs.declared.Next.{Next}
-use Rattle.region.specs.declared.Next.the-variants as N
-use Rattle.region.specs.declared.Found.{Found}
+use Rattle.region.specs.Places.{keyAt, valueAt, Met, Walk, placeOf}
 use Rattle.region.specs.declared.Found.the-variants as F
 
 -- ---- a visit
@@ -58,14 +55,6 @@ pub no-record : (s : Bytes) (h : Head) → h ≡ headOf s → OneOf (1 ∷ 2 ∷
 no-record s End e o = items-end s (sym e)
 no-record s Bad e o = items-bad s (sym e)
 no-record s (Record k v) e o = absurd (⊎-elim (λ (w : _≡_ {A = ℕ} 0 1). omega arith) (λ (w : _≡_ {A = ℕ} 0 2). omega arith) o)
-
--- what a caller learns from the answer that it opened
-module _ {s : Bytes} {at : ℕ} {r : Next} (h : Visit s at r) where
-  pub met-item : {k v n : ℕ} → r ≡ N.Item k v n → Met s at k v n
-  met-item e = subst (AtPlace s at) e (h .is)
-
-  pub met-nothing : r ≡ N.Nothing → items (drop at s) ≡ []
-  met-nothing e = subst (AtPlace s at) e (h .is)
 
 -- ---- the record that was met
 

@@ -1,7 +1,7 @@
 -- What the region's functions write, and what its two item calls that write leave: document 01's `storeIn` and `removeIn`, and a good image.
 use mathlib.Core.Path.{_≡_}
 use mathlib.Core.Bool.{Bool, true, false}
-use mathlib.Core.List.{List, _++_}
+use mathlib.Core.List.{_++_}
 use Prim.Native.Nat.{ℕ, _+_}
 use lib.ListN.{length, take, drop, replicate}
 use Rattle.definition.specs.Tools.{Bytes}

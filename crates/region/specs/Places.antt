@@ -3,7 +3,7 @@
 use mathlib.Core.Path.{_≡_}
 use mathlib.Core.List.{List, [], _∷_, _++_}
 use mathlib.Core.Option.{Option, none, some}
-use Prim.Native.Nat.{ℕ, _+_, _-_, _≤_}
+use Prim.Native.Nat.{ℕ, _+_, _≤_}
 use lib.ListN.{length, take, drop}
 use Rattle.definition.specs.Tools.{Bytes, pick}
 use Rattle.definition.specs.Region.{Item, item, hasKey, headSize, keyLimit, itemLimit, span, spanOf, headOf, items, used, look}

@@ -15,13 +15,13 @@ ghost use Rattle.definition.specs.Recovery.{isJournal};
 ghost use Rattle.region.specs.Places.{Visit, placeOf, keyAt, valueAt, Fetched, FirstJournal};
 ghost use Rattle.region.specs.Changes.{written, without, Now, Stores};
 
-// What stands in front of a key.
-pub const HEAD_SIZE: usize = 9;
+// The bytes in front of a key.
+const HEAD_SIZE: usize = 9;
 // The kind of a record that is an item.
 const ITEM_KIND: usize = 1;
-// The longest key of a record, and the most bytes of its key length, key and value together.
+// The longest key.
 const KEY_LIMIT: usize = 96;
-
+// The most that a key's length byte, a key and a value take together.
 const ITEM_LIMIT: usize = 482;
 
 // What a walk meets at a place: a record's key length, value length and the next place; or the walk is over.
@@ -92,7 +92,7 @@ pub fn is_allowed(klen: usize, vlen: usize) -> bool
 }
 
 // The bytes in front of a key and a value.
-pub fn header(kind: usize, klen: usize, vlen: usize) -> [u8; 9]
+pub fn header(kind: usize, klen: usize, vlen: usize) -> [u8; HEAD_SIZE]
     requires { ⌜ (klen < 256) × (vlen < 65536) ⌝ }
     ensures { λ r. ⌜ r ≡ Region.header kind klen vlen ⌝ }
 {
@@ -144,16 +144,17 @@ pub fn agrees(bytes: &[u8], at: usize, kind: usize, klen: usize, vlen: usize) ->
 fn is_blank_from(region: &[u8], at: usize) -> bool
     ensures { λ r. ⌜ r ≡ blank (drop at (now (region .entry))) ⌝ }
 {
-    let mut i = at;
-    while i < region.len() {
-        if region[i] != 255 {
+    let mut tested = at;
+    while tested < region.len() {
+        if region[tested] != 255 {
             return false;
         }
-        i += 1;
+        tested += 1;
     }
     true
 }
 
+// What stands at a place. A record is told by its bytes: they are compared with those that its lengths give.
 pub fn head_at(region: &[u8], at: usize) -> Head
     ensures { λ r. ⌜ r ≡ headOf (drop at (now (region .entry))) ⌝ }
 {
@@ -185,9 +186,11 @@ pub fn next_item(region: &[u8], at: usize) -> Next
     let Head::Record(klen, vlen) = head_at(region, at) else {
         return Next::Nothing;
     };
-    Next::Item(klen, vlen, at + span(klen, vlen))
+    let next = at + span(klen, vlen);
+    Next::Item(klen, vlen, next)
 }
 
+// Some bytes at a place.
 pub fn part(bytes: &[u8], at: usize, len: usize) -> &[u8]
     requires { ⌜ at + len ≤ length (now bytes) ⌝ }
     ensures { λ r. ⌜ now r ≡ take len (drop at (now (bytes .entry))) ⌝ }
@@ -214,7 +217,7 @@ pub fn value_at(region: &[u8], at: usize, klen: usize, vlen: usize) -> &[u8]
 
 // ---- the item with a key
 
-// Where the record with a key stands, from a record on.
+// Where the record with a key stands, among those from a place on.
 fn find_from(region: &[u8], from: usize, key: &[u8]) -> Found
     ensures { λ r. ⌜ r ≡ placeOf from (now (key .entry)) (items (drop from (now (region .entry)))) ⌝ }
 {
@@ -230,6 +233,7 @@ fn find_from(region: &[u8], from: usize, key: &[u8]) -> Found
     }
 }
 
+// Where the record with a key stands.
 pub fn find(region: &[u8], key: &[u8]) -> Found
     ensures { λ r. ⌜ r ≡ placeOf 0 (now (key .entry)) (items (now (region .entry))) ⌝ }
 {
@@ -243,7 +247,8 @@ pub fn fetch(region: &[u8], key: &[u8]) -> Spot
     let Found::At(at, klen, vlen) = find(region, key) else {
         return Spot::Nothing;
     };
-    Spot::At(at + HEAD_SIZE + klen, vlen)
+    let from = at + HEAD_SIZE + klen;
+    Spot::At(from, vlen)
 }
 
 // ---- the image test
@@ -274,7 +279,7 @@ fn is_distinct(region: &[u8]) -> bool
 {
     let mut at: usize = 0;
     loop {
-        let Next::Item(klen, vlen, next) = next_item(region, at) else {
+        let Next::Item(klen, _, next) = next_item(region, at) else {
             return true;
         };
         let Found::Nothing = find_from(region, next, key_at(region, at, klen)) else {
@@ -284,6 +289,7 @@ fn is_distinct(region: &[u8]) -> bool
     }
 }
 
+// Whether the image is good.
 pub fn is_good(region: &[u8]) -> bool
     ensures { λ r. ⌜ r ≡ good (now (region .entry)) ⌝ }
 {
@@ -302,21 +308,21 @@ pub fn used(region: &[u8]) -> usize
 {
     let mut at: usize = 0;
     loop {
-        let Next::Item(klen, vlen, next) = next_item(region, at) else {
+        let Next::Item(_, _, next) = next_item(region, at) else {
             return at;
         };
         at = next;
     }
 }
 
-// The records.
+// The number of records.
 pub fn count(region: &[u8]) -> usize
     ensures { λ r. ⌜ r ≡ length (items (now (region .entry))) ⌝ }
 {
     let mut at: usize = 0;
     let mut n: usize = 0;
     loop {
-        let Next::Item(klen, vlen, next) = next_item(region, at) else {
+        let Next::Item(_, _, next) = next_item(region, at) else {
             return n;
         };
         at = next;
@@ -326,6 +332,7 @@ pub fn count(region: &[u8]) -> usize
 
 // ---- the journal's keys
 
+// Whether a key is a journal key.
 pub fn is_journal(key: &[u8]) -> bool
     ensures { λ r. ⌜ r ≡ isJournal (now (key .entry)) ⌝ }
 {
@@ -344,11 +351,12 @@ pub fn first_journal(region: &[u8]) -> Spot
 {
     let mut at: usize = 0;
     loop {
-        let Next::Item(klen, vlen, next) = next_item(region, at) else {
+        let Next::Item(klen, _, next) = next_item(region, at) else {
             return Spot::Nothing;
         };
         if is_journal(key_at(region, at, klen)) {
-            return Spot::At(at + HEAD_SIZE, klen);
+            let from = at + HEAD_SIZE;
+            return Spot::At(from, klen);
         }
         at = next;
     }

@@ -1,5 +1,6 @@
 use borrow.Author.Needs.{needs}
-use Rattle.recovery.proofs.Sweeping.{Dropping, dropping-start, dropped-all, drop-failed, drop-on, drop-less, four-inside}
+use Rattle.recovery.proofs.Sweeping.{Dropping, dropping-start, dropped-all, drop-failed, drop-on, drop-less}
+use Rattle.region.proofs.Answers.{first-inside}
 use Rattle.recovery.proofs.Entries.{copied-length}
 use Prim.Native.Nat.{ℕ, _+_, _-_, _≤_}
 use mathlib.Core.Path.{_≡_, refl, sym, ap}
@@ -35,13 +36,13 @@ returns : tie.Need-returns Inv-loop μ-loop
 returns c = dropped-all (c .before .before .before .before .loop .inv .1) (c .before .before .first-journal .ensures) (c .enum-told .given .1)
 
 copied-requires : tie.Need-copied-requires Inv-loop μ-loop
-copied-requires c κs = let i = four-inside (c .before .before .before .before .first-journal .ensures) (c .before .before .spot .given .1) in (i .within, omega arith)
+copied-requires c κs = let i = first-inside (c .before .before .before .before .first-journal .ensures) (c .before .before .spot .given .1) in (i .within, omega arith)
 
 array-share-prefix-key : tie.Need-array-share-prefix-key Inv-loop μ-loop
-array-share-prefix-key c = let i = four-inside (c .before .before .before .before .before .before .first-journal .ensures) (c .before .before .before .before .spot .given .1) in omega arith
+array-share-prefix-key c = let i = first-inside (c .before .before .before .before .before .before .first-journal .ensures) (c .before .before .before .before .spot .given .1) in omega arith
 
 slice-aggregate-remove : tie.Need-slice-aggregate-remove Inv-loop μ-loop
-slice-aggregate-remove c = let i = four-inside (c .before .before .before .before .before .before .before .first-journal .ensures) (c .before .before .before .before .before .spot .given .1) in copied-length _ _ _ _ (i .within) (c .before .before .copied .ensures)
+slice-aggregate-remove c = let i = first-inside (c .before .before .before .before .before .before .before .first-journal .ensures) (c .before .before .before .before .before .spot .given .1) in copied-length _ _ _ _ (i .within) (c .before .before .copied .ensures)
 
 remove-requires : tie.Need-remove-requires Inv-loop μ-loop
 remove-requires c κs = search needs

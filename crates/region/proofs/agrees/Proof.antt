@@ -25,7 +25,9 @@ same-requires : tie.Need-same-requires
 same-requires c κs = search needs
 
 returns : tie.Need-returns
-returns c = let a = c .before .before .before .before .before .args in agrees-is (a .bytes .now) _ (a .at) (a .kind) (a .klen) (a .vlen) (c .same .ensures) (c .before .before .before .header .ensures)
+returns c =
+    let a = c .before .before .before .before .before .args in
+    agrees-is (a .bytes .now) _ (a .at) (a .kind) (a .klen) (a .vlen) (c .same .ensures) (c .before .before .before .header .ensures)
 
 pub agrees-spec : {M : Type 1} → statement M
 agrees-spec =

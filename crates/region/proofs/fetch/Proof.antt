@@ -26,15 +26,15 @@ enum-told c = search needs
 returns : tie.Need-returns
 returns c = fetched-nothing _ _ (sym (c .before .before .find .ensures) ∙ c .enum-told .given .1)
 
-add-t7 : tie.Need-add-t7
-add-t7 c = let m = located _ _ _ _ _ (found c) .met in search needs
+add-from : tie.Need-add-from
+add-from c = let m = located _ _ _ _ _ (found c) .met in search needs
 
-add-t8 : tie.Need-add-t8
-add-t8 c = let m = located _ _ _ _ _ (found c) .met in search needs
+add-from-2 : tie.Need-add-from-2
+add-from-2 c = let m = located _ _ _ _ _ (found c) .met in search needs
 
 returns-2 : tie.Need-returns-2
 returns-2 c = fetched-at _ _ _ _ _ (found c)
 
 pub fetch-spec : {M : Type 1} → statement M
 fetch-spec =
-    tie.close (tie.spec find-requires enum-known-at enum-told returns add-t7 add-t8 returns-2)
+    tie.close (tie.spec find-requires enum-known-at enum-told returns add-from add-from-2 returns-2)

@@ -4,7 +4,8 @@ use Prim.Native.Nat.{_-_}
 use lib.ListN.{length, drop}
 use Rattle.definition.specs.Region.{items}
 use Rattle.region.specs.Places.{Met, placeOf}
-use Rattle.region.proofs.Walks.{met-item, met-nothing, place-hit, place-miss, place-stop}
+use Rattle.region.proofs.Answers.{met-item, met-nothing}
+use Rattle.region.proofs.Walks.{place-hit, place-miss, place-stop}
 use Rattle.region.proofs.find_from.Statement.{statement}
 use Rattle.region.proofs.find_from.Tie as tie
 

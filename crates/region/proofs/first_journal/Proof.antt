@@ -5,7 +5,7 @@ use lib.ListN.{length, drop}
 use Rattle.definition.specs.Region.{items}
 use Rattle.definition.specs.Recovery.{journalKeys}
 use Rattle.region.specs.Places.{Met, firstOf}
-use Rattle.region.proofs.Walks.{met-item, met-nothing}
+use Rattle.region.proofs.Answers.{met-item, met-nothing}
 use Rattle.region.proofs.Journals.{first-stop, first-hit, first-miss}
 use Rattle.region.proofs.first_journal.Statement.{statement}
 use Rattle.region.proofs.first_journal.Tie as tie
@@ -45,8 +45,8 @@ key-at-requires c κs = let m = found c in search needs
 is-journal-requires : tie.Need-is-journal-requires Inv-loop μ-loop
 is-journal-requires c κs = search needs
 
-add-t9 : tie.Need-add-t9 Inv-loop μ-loop
-add-t9 c = let m = found (c .before .before .before) in search needs
+add-from : tie.Need-add-from Inv-loop μ-loop
+add-from c = let m = found (c .before .before .before) in search needs
 
 returns-2 : tie.Need-returns-2 Inv-loop μ-loop
 returns-2 c =
@@ -74,7 +74,7 @@ first-journal-spec =
     returns
     key-at-requires
     is-journal-requires
-    add-t9
+    add-from
     returns-2
     loop-less
     loop-again)

@@ -8,10 +8,10 @@ use Rattle.region.proofs.is_blank_from.Statement.{statement}
 use Rattle.region.proofs.is_blank_from.Tie as tie
 
 abbrev Inv-loop : tie.InvT-loop
-Inv-loop region at i₀ i = blank (drop at region) ≡ blank (drop i region)
+Inv-loop region at tested₀ tested = blank (drop at region) ≡ blank (drop tested region)
 
 abbrev μ-loop : tie.MeasureT-loop
-μ-loop region at i₀ i = length region - i
+μ-loop region at tested₀ tested = length region - tested
 
 loop-holds : tie.Need-loop-holds Inv-loop μ-loop
 loop-holds c = refl
@@ -24,8 +24,8 @@ returns c =
     let h = c .before .before in
     sym (h .before .loop .inv ∙ blank-miss _ _ (h .loop-test .taken) (c .if1 .taken))
 
-add-i : tie.Need-add-i Inv-loop μ-loop
-add-i c = search needs
+add-tested : tie.Need-add-tested Inv-loop μ-loop
+add-tested c = search needs
 
 loop-less : tie.Need-loop-less Inv-loop μ-loop
 loop-less c = search needs
@@ -47,7 +47,7 @@ is-blank-from-spec =
     loop-holds
     shared-slice-read-if1
     returns
-    add-i
+    add-tested
     loop-less
     loop-again
     returns-2)

@@ -4,7 +4,7 @@ use Prim.Native.Nat.{_-_}
 use lib.ListN.{length, drop}
 use Rattle.definition.specs.Region.{distinct, items}
 use Rattle.region.specs.Places.{Met}
-use Rattle.region.proofs.Walks.{met-item, met-nothing}
+use Rattle.region.proofs.Answers.{met-item, met-nothing}
 use Rattle.region.proofs.Finding.{distinct-miss, distinct-hit, distinct-stop}
 use Rattle.region.proofs.is_distinct.Statement.{statement}
 use Rattle.region.proofs.is_distinct.Tie as tie

@@ -1,5 +1,5 @@
 use borrow.Author.Needs.{needs}
-use mathlib.Core.Path.{_≡_, refl, sym, _∙_}
+use mathlib.Core.Path.{refl, sym, _∙_}
 use Rattle.definition.specs.Region.{good}
 use Rattle.definition.proofs.Choices.{picked, passed}
 use Rattle.region.proofs.is_good.Statement.{statement}

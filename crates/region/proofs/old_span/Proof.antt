@@ -1,8 +1,5 @@
 use borrow.Author.Needs.{needs}
-use mathlib.Core.Path.{_≡_, sym, _∙_}
-use Rattle.definition.specs.Region.{items}
-use Rattle.region.specs.Places.{placeOf}
-use Rattle.region.specs.declared.Found.the-variants.{At}
+use mathlib.Core.Path.{sym, _∙_}
 use Rattle.region.proofs.Finding.{located, room-left, room-kept}
 use Rattle.region.proofs.old_span.Statement.{statement}
 use Rattle.region.proofs.old_span.Tie as tie
