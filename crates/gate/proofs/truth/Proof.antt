@@ -1,0 +1,16 @@
+use mathlib.Core.Path.{_≡_, refl, sym, ap, _∙_}
+use Rattle.gate.specs.Forms.{truthOf}
+use Rattle.definition.specs.declared.State.{State}
+use Rattle.definition.specs.declared.TruthReply.{TruthReply}
+use borrow.Author.Needs.{needs}
+use Rattle.gate.proofs.truth.Statement.{statement}
+use Rattle.gate.proofs.truth.Tie as tie
+
+state-of-requires : tie.Need-state-of-requires
+state-of-requires c κs = search needs
+
+returns : tie.Need-returns
+returns c = ap (λ (st : State). record { answer = c .before .args .answer; state = st; calls = c .before .args .step .calls }) (c .state-of .ensures)
+
+pub truth-spec : {M : Type 1} → statement M
+truth-spec = tie.close (tie.spec state-of-requires returns)
