@@ -251,27 +251,27 @@ module _ (v : Bytes) {e : Entry} (r : EntryReads v e) where
 -- ---- an operation's tests
 
 module _ (k v : Bytes) where
-  pub op-long : 96 < length k → Checks k v (K.Refused (keyTooLong k))
+  pub op-long : 96 < length k → Checks (opFault (Put k v)) k v (K.Refused (keyTooLong k))
   unfolding opFault opKey opValue checkedOf longKey
   op-long h = record { is = ap checkedOf (picked _ _ _ (lt-ltb _ _ h) refl); bounds = tt }
 
   module _ (h1 : length k ≤ 96) {r : Bool} (er : r ≡ reserved k) where
-    pub op-reserved : r ≡ true → Checks k v (K.Refused ReservedKey)
+    pub op-reserved : r ≡ true → Checks (opFault (Put k v)) k v (K.Refused ReservedKey)
     unfolding opFault opKey opValue checkedOf longKey
     op-reserved h = record { is = ap checkedOf (passed _ _ _ (le-ltb _ _ h1) (picked _ _ _ (sym er ∙ h) refl)); bounds = tt }
 
     module _ (h2 : r ≡ false) where
-      pub op-value : 256 < length v → Checks k v (K.Refused (valueTooLong v))
+      pub op-value : 256 < length v → Checks (opFault (Put k v)) k v (K.Refused (valueTooLong v))
       unfolding opFault opKey opValue checkedOf longKey longValue
       op-value h =
           record { is = ap checkedOf (passed _ _ _ (le-ltb _ _ h1) (passed _ _ _ (sym er ∙ h2) (picked _ _ _ (lt-ltb _ _ h) refl))); bounds = tt }
 
-      pub op-fine : length v ≤ 256 → Checks k v K.Fine
+      pub op-fine : length v ≤ 256 → Checks (opFault (Put k v)) k v K.Fine
       unfolding opFault opKey opValue checkedOf longKey longValue
       op-fine h =
           record { is = ap checkedOf (passed _ _ _ (le-ltb _ _ h1) (passed _ _ _ (sym er ∙ h2) (passed _ _ _ (le-ltb _ _ h) refl))); bounds = (h1, h) }
 
-module _ {k v : Bytes} {r : Checked} (c : Checks k v r) where
+module _ {tests : Option Fault} {k v : Bytes} {r : Checked} (c : Checks tests k v r) where
   pub fine-bounds : r ≡ K.Fine → (length k ≤ 96) × (length v ≤ 256)
   fine-bounds q = subst (Bounded k v) q (c .bounds)
 
@@ -285,11 +285,11 @@ module _ {k v : Bytes} {r : Checked} (c : Checks k v r) where
   some-of none f e = let z : _≡_ {A = ℕ} 0 1 = cc in absurd (omega arith)
   some-of (some g) f e = let z : f ≡ g = cc in ap some (sym z)
 
-  pub fine-none : r ≡ K.Fine → opFault (Put k v) ≡ none
-  fine-none q = none-of (opFault (Put k v)) (sym q ∙ c .is)
+  pub fine-none : r ≡ K.Fine → tests ≡ none
+  fine-none q = none-of tests (sym q ∙ c .is)
 
-  pub refused-some : {f : Fault} → r ≡ K.Refused f → opFault (Put k v) ≡ some f
-  refused-some {f} q = some-of (opFault (Put k v)) f (sym q ∙ c .is)
+  pub refused-some : {f : Fault} → r ≡ K.Refused f → tests ≡ some f
+  refused-some {f} q = some-of tests f (sym q ∙ c .is)
 
 -- ---- what is written
 
@@ -344,11 +344,11 @@ unfolding entryBytes
 length-entry op k v = omega (arith, length-append k v)
 
 module _ (op : ℕ) (k v out : Bytes) where
-  pub entry-refused : {r : Checked} {f : Fault} → Checks k v r → r ≡ K.Refused f → EntryWrites op k v out out (Refused f)
+  pub entry-refused : {r : Checked} {f : Fault} → Checks (opFault (Put k v)) k v r → r ≡ K.Refused f → EntryWrites op k v out out (Refused f)
   unfolding entryAnswer laidIf
   entry-refused c q = record { is = sym (opt-some _ _ (refused-some c q)); made = refl }
 
-  module _ {r : Checked} (c : Checks k v r) (q : r ≡ K.Fine) where
+  module _ {r : Checked} (c : Checks (opFault (Put k v)) k v r) (q : r ≡ K.Fine) where
     pub entry-full : length out < 2 + length k + length v → EntryWrites op k v out out (Refused (Serialization BufferTooSmall))
     unfolding entryAnswer laidIf
     entry-full h =

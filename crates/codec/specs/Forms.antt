@@ -73,8 +73,9 @@ abbrev pub Bounded : Bytes → Bytes → Checked → Type 0
 Bounded k v C.Fine = (length k ≤ 96) × (length v ≤ 256)
 Bounded k v (C.Refused f) = Unit {0}
 
-pub record Checks (k v : Bytes) (r : Checked) : Type 0 where
-  pub is : r ≡ checkedOf (opFault (Put k v))
+-- r is what these tests of a key and a value answer
+pub record Checks (tests : Option Fault) (k v : Bytes) (r : Checked) : Type 0 where
+  pub is : r ≡ checkedOf tests
   pub bounds : Bounded k v r
 
 -- the bytes of an entry with this operation byte

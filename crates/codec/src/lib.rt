@@ -11,7 +11,7 @@ ghost use mathlib.Core.Path.{_≡_};
 ghost use Prim.Native.Nat.{_+_, _*_, _≤_, _<_};
 ghost use lib.ListN.{length};
 ghost use Rattle.definition.specs.Codec;
-ghost use Rattle.definition.specs.Codec.{keyWrite, keyBytes, keyLength, be16At, journalKey, marker, markerKey, entryOf, keyPart, valuePart, laidIf};
+ghost use Rattle.definition.specs.Codec.{Put, keyWrite, keyBytes, keyLength, be16At, journalKey, marker, markerKey, opFault, entryOf, keyPart, valuePart, laidIf};
 ghost use Rattle.codec.specs.Forms.{written, padded, KeyLens, KeyReads, MarkerReads, EntryReads, EntryWrites, Encodes, Checks, opAs};
 
 // What an operation of a batch is.
@@ -287,7 +287,7 @@ pub fn value_part(entry: &[u8]) -> &[u8]
 
 // The batch's tests of an operation with this key and value, in their order; a delete has the empty value.
 pub fn check_op(key: &[u8], value: &[u8]) -> Checked
-    ensures { λ r. ⌜ Checks (now (key .entry)) (now (value .entry)) r ⌝ }
+    ensures { λ r. ⌜ Checks (opFault (Put (now (key .entry)) (now (value .entry)))) (now (key .entry)) (now (value .entry)) r ⌝ }
 {
     if Key::MAX_LEN < key.len() {
         return Checked::Refused(Fault::CapacityExceeded(

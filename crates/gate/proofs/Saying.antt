@@ -20,15 +20,19 @@ use Rattle.definition.specs.declared.Fault.the-variants.{Corrupted}
 use Rattle.definition.specs.declared.Health.{Health}
 use Rattle.definition.specs.declared.Health.the-variants.{Clean}
 use Rattle.definition.specs.declared.Answer.{Answer}
-use Rattle.definition.specs.declared.Answer.the-variants.{Ok, Refused}
 use Rattle.definition.specs.declared.Reply.{Reply}
+use Rattle.definition.specs.declared.TruthAnswer.{TruthAnswer}
+use Rattle.definition.specs.declared.TruthReply.{TruthReply}
+use Rattle.items.specs.declared.Failure.{Failure}
+use Rattle.items.specs.declared.FetchAnswer.{FetchAnswer}
+use Rattle.items.specs.declared.FetchAnswer.the-variants.{Missed}
 use Rattle.items.specs.declared.ItemAnswer.{ItemAnswer}
 use Rattle.items.specs.declared.ItemAnswer.the-variants as I
-use Rattle.items.specs.Forms.{Runs, Ran}
-use Rattle.items.proofs.Along.{ran-done, ran-failed}
+use Rattle.items.specs.Forms.{Runs, Ran, Fetches, failureOf, unfetchedOf}
+use Rattle.items.proofs.Along.{ran-done, ran-failed, fetch-failed}
 use Rattle.gate.specs.declared.Converged.{Converged}
 use Rattle.gate.specs.declared.Converged.the-variants.{Ready, Failed}
-use Rattle.gate.specs.Forms.{ConvergedBy, Gate, unconvergedOf, stateOf, replyOf, repliedOf, Says, stands}
+use Rattle.gate.specs.Forms.{ConvergedBy, Gate, unconvergedOf, unreadyOf, stateOf, replyOf, truthOf, Says, stands}
 
 -- ---- the recovery
 
@@ -100,14 +104,45 @@ module _ {A : Type 0} (refuse : Fault → A) (k : Health → Prog Bytes (Said A)
   pub says-unready : {f : Fault} {t1 : Step} → r ≡ Failed f t1 → Says (gate flat refuse needed h k) s script t b (refuse f) (stateOf h t1) (t1 .calls) []
   says-unready e = unready refuse k h s script t b needed (x .fine) (subst (ConvergedBy needed h s script t b) e (x .is))
 
--- ---- a reply to an item call's answer
+-- ---- failures, as the code reads them off an answer
 
-module _ {s script : Bytes} {t : Step} {p : Prog Bytes (Unit {0})} {b : Bytes} {r : ItemAnswer} (x : Ran p s script t b r) (k : Unit {0} → Prog Bytes (Said Answer)) where
-  pub replied-failed : (h : Fault → Prog Bytes (Said Answer)) {f : Fault} {t1 : Step} {hl : Health} {u : Reply} → r ≡ I.Failed f t1 → u ≡ repliedOf r hl
-      → h f ≡ say (Refused f) hl → Says (onP p k h) s script t b (u .answer) (u .state) (u .calls) []
-  replied-failed h {f} {t1} {hl} {u} e eu eh =
-      let z : replyOf (Refused f) hl t1 ≡ u = sym (eu ∙ ap (λ r. repliedOf r hl) e) in
-      subst (λ (u : Reply). Says (onP p k h) s script t b (u .answer) (u .state) (u .calls) []) z (says-else k h (ran-failed x e) (says-as eh (says-ret (x .fine))))
+module _ {A : Type 0} (refuse : Fault → A) {s script : Bytes} {t : Step} {hl : Health} {w : Failure} where
+  -- an item program failed, and its fault is the call's
+  pub says-failed : {p : Prog Bytes (Unit {0})} {b : Bytes} {r : ItemAnswer} (k : Unit {0} → Prog Bytes (Said A)) {f : Fault} {t1 : Step}
+      → Ran p s script t b r → r ≡ I.Failed f t1 → w ≡ failureOf r
+      → Says (onP p k (λ e. say (refuse e) hl)) s script t b (refuse (w .fault)) (stateOf hl (w .step)) (w .step .calls) []
+  says-failed {p} {b} {r} k {f} {t1} x e ew =
+      let z : record { fault = f; step = t1 } ≡ w = sym (ew ∙ ap failureOf e) in
+      subst (λ (w : Failure). Says (onP p k (λ e. say (refuse e) hl)) s script t b (refuse (w .fault)) (stateOf hl (w .step)) (w .step .calls) []) z
+      (says-else k (λ e. say (refuse e) hl) (ran-failed x e) (says-ret (x .fine)))
+
+  -- the same of a fetch
+  pub says-missed : {key : Bytes} {r : FetchAnswer} (k : Option Bytes → Prog Bytes (Said A)) {f : Fault} {t1 : Step}
+      → good s ≡ true → Fetches key s script t r → r ≡ Missed f t1 → w ≡ failureOf (unfetchedOf r)
+      → Says (onP (fetch flat key) k (λ e. say (refuse e) hl)) s script t s (refuse (w .fault)) (stateOf hl (w .step)) (w .step .calls) []
+  says-missed {key} {r} k {f} {t1} g x e ew =
+      let z : record { fault = f; step = t1 } ≡ w = sym (ew ∙ ap (λ r. failureOf (unfetchedOf r)) e) in
+      subst (λ (w : Failure). Says (onP (fetch flat key) k (λ e. say (refuse e) hl)) s script t s (refuse (w .fault)) (stateOf hl (w .step)) (w .step .calls) []) z
+      (says-else k (λ e. say (refuse e) hl) (fetch-failed g x e) (says-ret g))
+
+  -- and of the recovery
+  pub says-not-ready : (k : Health → Prog Bytes (Said A)) {needed : Bool} {b : Bytes} {r : Converged} {f : Fault} {t1 : Step}
+      → Gate needed hl s script t b r → r ≡ Failed f t1 → w ≡ unreadyOf r
+      → Says (gate flat refuse needed hl k) s script t b (refuse (w .fault)) (stateOf hl (w .step)) (w .step .calls) []
+  says-not-ready k {needed} {b} {r} {f} {t1} x e ew =
+      let z : record { fault = f; step = t1 } ≡ w = sym (ew ∙ ap unreadyOf e) in
+      subst (λ (w : Failure). Says (gate flat refuse needed hl k) s script t b (refuse (w .fault)) (stateOf hl (w .step)) (w .step .calls) []) z (says-unready refuse k x e)
+
+-- ---- the structs that carry an answer
+
+module _ {s script b out : Bytes} {t t1 : Step} {h : Health} where
+  pub as-reply : {p : Prog Bytes (Said Answer)} {a : Answer} {u : Reply} → u ≡ replyOf a h t1 → Says p s script t b a (stateOf h t1) (t1 .calls) out
+      → Says p s script t b (u .answer) (u .state) (u .calls) out
+  as-reply {p} e x = subst (λ (u : Reply). Says p s script t b (u .answer) (u .state) (u .calls) out) (sym e) x
+
+  pub as-truth : {p : Prog Bytes (Said TruthAnswer)} {a : TruthAnswer} {u : TruthReply} → u ≡ truthOf a h t1 → Says p s script t b a (stateOf h t1) (t1 .calls) out
+      → Says p s script t b (u .answer) (u .state) (u .calls) out
+  as-truth {p} e x = subst (λ (u : TruthReply). Says p s script t b (u .answer) (u .state) (u .calls) out) (sym e) x
 
 -- ---- the public call
 

@@ -11,13 +11,14 @@ use Rattle.definition.specs.Calls.{Said, said}
 use Rattle.definition.specs.declared.Step.{Step}
 use Rattle.definition.specs.declared.State.{State}
 use Rattle.definition.specs.declared.Fault.{Fault}
+use Rattle.definition.specs.declared.Fault.the-variants.{EngineBug}
 use Rattle.definition.specs.declared.Health.{Health}
 use Rattle.definition.specs.declared.Health.the-variants.{Clean}
 use Rattle.definition.specs.declared.Answer.{Answer}
-use Rattle.definition.specs.declared.Answer.the-variants.{Ok, Refused}
 use Rattle.definition.specs.declared.TruthAnswer.{TruthAnswer}
 use Rattle.definition.specs.declared.Reply.{Reply}
 use Rattle.definition.specs.declared.TruthReply.{TruthReply}
+use Rattle.items.specs.declared.Failure.{Failure}
 use Rattle.items.specs.declared.ItemAnswer.{ItemAnswer}
 use Rattle.items.specs.declared.ItemAnswer.the-variants as I
 use Rattle.items.specs.Forms.{Runs}
@@ -39,6 +40,10 @@ abbrev pub unconvergedOf : ItemAnswer → Converged
 unconvergedOf (I.Done t) = Ready Clean t
 unconvergedOf (I.Failed f t) = Failed f t
 
+abbrev pub unreadyOf : Converged → Failure
+unreadyOf (Ready h t) = record { fault = EngineBug; step = t }
+unreadyOf (Failed f t) = record { fault = f; step = t }
+
 -- ---- replies
 
 abbrev pub stateOf : Health → Step → State
@@ -46,10 +51,6 @@ stateOf h t = record { health = h; at = t .at; cut = t .cut }
 
 abbrev pub replyOf : Answer → Health → Step → Reply
 replyOf a h t = record { answer = a; state = stateOf h t; calls = t .calls }
-
-abbrev pub repliedOf : ItemAnswer → Health → Reply
-repliedOf (I.Done t) h = replyOf Ok h t
-repliedOf (I.Failed f t) h = replyOf (Refused f) h t
 
 abbrev pub truthOf : TruthAnswer → Health → Step → TruthReply
 truthOf a h t = record { answer = a; state = stateOf h t; calls = t .calls }

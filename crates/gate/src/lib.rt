@@ -8,13 +8,14 @@ use definition::State;
 use definition::Step;
 use definition::TruthAnswer;
 use definition::TruthReply;
+use items::Failure;
 use items::ItemAnswer;
 ghost use mathlib.Core.Path.{_≡_};
 ghost use mathlib.Core.Bool.{true};
 ghost use Rattle.definition.specs.Calls;
 ghost use Rattle.definition.specs.Region.{good};
 ghost use Rattle.definition.specs.Public;
-ghost use Rattle.gate.specs.Forms.{Gate, unconvergedOf, stateOf, replyOf, repliedOf, truthOf};
+ghost use Rattle.gate.specs.Forms.{Gate, unconvergedOf, unreadyOf, stateOf, replyOf, truthOf};
 
 // A store that is ready, with its health, or a recovery that failed.
 pub enum Converged {
@@ -84,6 +85,19 @@ pub fn converge(
     Converged::Ready(Health::Clean, next)
 }
 
+// Why a store is not ready, and where its call then stands.
+pub fn why(converged: Converged) -> Failure
+    ensures { λ r. ⌜ r ≡ unreadyOf converged ⌝ }
+{
+    match converged {
+        Converged::Failed(fault, step) => Failure { fault, step },
+        Converged::Ready(_, step) => Failure {
+            fault: Fault::EngineBug,
+            step: step,
+        },
+    }
+}
+
 // The state to keep after a call.
 pub fn state_of(health: Health, step: Step) -> State
     ensures { λ r. ⌜ r ≡ stateOf health step ⌝ }
@@ -106,14 +120,13 @@ pub fn reply(answer: Answer, health: Health, step: Step) -> Reply
     }
 }
 
-// The reply to an item call's answer: its fault and its step, with the health as given.
-pub fn replied(answer: ItemAnswer, health: Health) -> Reply
-    ensures { λ r. ⌜ r ≡ repliedOf answer health ⌝ }
+// The reply to a failure, with the health as given.
+pub fn refused(failed: Failure, health: Health) -> Reply
+    ensures { λ r. ⌜ r ≡ replyOf (Answer.Refused (failed .fault)) health (failed .step) ⌝ }
 {
-    match answer {
-        ItemAnswer::Failed(fault, step) => reply(Answer::Refused(fault), health, step),
-        ItemAnswer::Done(step) => reply(Answer::Ok, health, step),
-    }
+    let fault = failed.fault;
+    let step = failed.step;
+    reply(Answer::Refused(fault), health, step)
 }
 
 pub fn truth(answer: TruthAnswer, health: Health, step: Step) -> TruthReply
@@ -125,4 +138,12 @@ pub fn truth(answer: TruthAnswer, health: Health, step: Step) -> TruthReply
         state: state,
         calls: step.calls,
     }
+}
+
+pub fn truth_refused(failed: Failure, health: Health) -> TruthReply
+    ensures { λ r. ⌜ r ≡ truthOf (TruthAnswer.Refused (failed .fault)) health (failed .step) ⌝ }
+{
+    let fault = failed.fault;
+    let step = failed.step;
+    truth(TruthAnswer::Refused(fault), health, step)
 }

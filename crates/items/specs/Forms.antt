@@ -16,6 +16,8 @@ use Rattle.region.specs.declared.Spot.{Spot}
 use Rattle.region.specs.declared.Spot.the-variants as S
 use Rattle.region.specs.declared.Next.{Next}
 use Rattle.region.specs.declared.Next.the-variants as N
+use Rattle.definition.specs.declared.Fault.the-variants.{EngineBug}
+use Rattle.items.specs.declared.Failure.{Failure}
 use Rattle.items.specs.declared.ItemAnswer.{ItemAnswer}
 use Rattle.items.specs.declared.ItemAnswer.the-variants.{Done, Failed}
 use Rattle.items.specs.declared.FetchAnswer.{FetchAnswer}
@@ -80,3 +82,8 @@ unfetchedOf (Missed f t) = Failed f t
 abbrev pub stoppedOf : NextAnswer → ItemAnswer
 stoppedOf (Met x t) = Done t
 stoppedOf (Unmet f t) = Failed f t
+
+-- what a failed answer says
+abbrev pub failureOf : ItemAnswer → Failure
+failureOf (Done t) = record { fault = EngineBug; step = t }
+failureOf (Failed f t) = record { fault = f; step = t }

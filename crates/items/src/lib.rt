@@ -12,7 +12,7 @@ ghost use lib.ListN.{length};
 ghost use Rattle.definition.specs.Region.{item, good, allowed};
 ghost use Rattle.definition.specs.Program;
 ghost use Rattle.definition.specs.Program.{flat};
-ghost use Rattle.items.specs.Forms.{Ran, Fetches, Visits, missedOf, unmetOf, unfetchedOf, stoppedOf};
+ghost use Rattle.items.specs.Forms.{Ran, Fetches, Visits, missedOf, unmetOf, unfetchedOf, stoppedOf, failureOf};
 
 // What a store, a removal or an opened iteration answers.
 pub enum ItemAnswer {
@@ -30,6 +30,12 @@ pub enum FetchAnswer {
 pub enum NextAnswer {
     Met(Next, Step),
     Unmet(Fault, Step),
+}
+
+// Why an item call failed, and where its call then stands.
+pub struct Failure {
+    pub fault: Fault,
+    pub step: Step,
 }
 
 // Stores an item. Where the call fails with its effect, the effect is done where it fits.
@@ -146,5 +152,18 @@ pub fn stopped(answer: NextAnswer) -> ItemAnswer
     match answer {
         NextAnswer::Unmet(fault, step) => ItemAnswer::Failed(fault, step),
         NextAnswer::Met(_, step) => ItemAnswer::Done(step),
+    }
+}
+
+// What a failed answer says. An answer that did not fail is read as an engine's fault, which no caller asks for.
+pub fn why(answer: ItemAnswer) -> Failure
+    ensures { λ r. ⌜ r ≡ failureOf answer ⌝ }
+{
+    match answer {
+        ItemAnswer::Failed(fault, step) => Failure { fault, step },
+        ItemAnswer::Done(step) => Failure {
+            fault: Fault::EngineBug,
+            step: step,
+        },
     }
 }
