@@ -9,7 +9,7 @@ use Rattle.definition.specs.Codec.{laid}
 use Rattle.definition.specs.Region.{good}
 use Rattle.definition.specs.Program.{Prog, ret, onP, World, world, Result, ok, bad, exec, flat, fetch}
 use Rattle.definition.specs.Recovery.{recover}
-use Rattle.definition.specs.Calls.{Said, said, say, gate}
+use Rattle.definition.specs.Calls.{Said, said, say, gate, isPending}
 use Rattle.definition.specs.Public.{Outcome, outcome, state, begin, outcomeOf, public}
 use Rattle.definition.proofs.Choices.{pick-yes, pick-no}
 use Rattle.definition.proofs.Running.{exec-ok, exec-bad}
@@ -156,3 +156,28 @@ module _ {A : Type 0} (refuse : Fault → A) (p : Prog Bytes (Said A)) (region s
   pub public-bad : {g : Bool} → g ≡ good region → g ≡ false → outcome (refuse Corrupted) st 0 region out ≡ public refuse p region script st out
   unfolding public
   public-bad eg e = sym (pick-no _ _ (sym eg ∙ e))
+
+-- ---- a public call that recovers first only if Pending
+
+module _ {A : Type 0} (refuse : Fault → A) (k : Health → Prog Bytes (Said A)) {region script : Bytes} (st : State) (out : Bytes)
+    {g : Bool} (eg : g ≡ good region) (e : g ≡ true) {n : Bool} (en : n ≡ isPending (st .health)) {t : Step} (et : t ≡ begin st)
+    {b : Bytes} {c : Converged} (x : Gate n (st .health) region script t b c) where
+  gated : Gate (isPending (st .health)) (st .health) region script (begin st) b c
+  gated = subst (λ n. Gate n (st .health) region script (begin st) b c) en (subst (λ t. Gate n (st .health) region script t b c) et x)
+
+  pub public-ready : {h1 : Health} {t1 : Step} {b2 : Bytes} {a : A} {st1 : State} {m : ℕ} {made : Bytes} → c ≡ Ready h1 t1 → Says (k h1) b script t1 b2 a st1 m made
+      → outcome a st1 m b2 (laid made out) ≡ public refuse (gate flat refuse (isPending (st .health)) (st .health) k) region script st out
+  public-ready q y = public-good refuse _ region script st out eg e (says-ready refuse k gated q y)
+
+  pub public-unready : {f : Fault} {t1 : Step} {w : Failure} → c ≡ Failed f t1 → w ≡ unreadyOf c
+      → outcome (refuse (w .fault)) (stateOf (st .health) (w .step)) (w .step .calls) b (laid [] out) ≡ public refuse (gate flat refuse (isPending (st .health)) (st .health) k) region script st out
+  public-unready q ew = public-good refuse _ region script st out eg e (says-not-ready refuse k gated q ew)
+
+-- ---- what a reply makes of an outcome
+
+module _ {h : Health} {t : Step} {b out : Bytes} where
+  pub reply-outcome : {a : Answer} {u : Reply} → u ≡ replyOf a h t → outcome (u .answer) (u .state) (u .calls) b out ≡ outcome a (stateOf h t) (t .calls) b out
+  reply-outcome e = ap (λ (u : Reply). outcome (u .answer) (u .state) (u .calls) b out) e
+
+  pub truth-outcome : {a : TruthAnswer} {u : TruthReply} → u ≡ truthOf a h t → outcome (u .answer) (u .state) (u .calls) b out ≡ outcome a (stateOf h t) (t .calls) b out
+  truth-outcome e = ap (λ (u : TruthReply). outcome (u .answer) (u .state) (u .calls) b out) e

@@ -1,0 +1,4 @@
+pub mod Testing
+pub mod Putting
+pub mod Finding
+pub mod Mounting

@@ -1,0 +1,15 @@
+use mathlib.Core.Path.{_≡_, refl, sym, ap, _∙_}
+use Rattle.definition.specs.declared.State.{State}
+use Rattle.definition.specs.declared.GetReply.{GetReply}
+use borrow.Author.Needs.{needs}
+use Rattle.store.proofs.get_reply.Statement.{statement}
+use Rattle.store.proofs.get_reply.Tie as tie
+
+state-of-requires : tie.Need-state-of-requires
+state-of-requires c κs = search needs
+
+returns : tie.Need-returns
+returns c = ap (λ (st : State). record { answer = c .before .args .answer; state = st; calls = c .before .args .step .calls }) (c .state-of .ensures)
+
+pub get-reply-spec : {M : Type 1} → statement M
+get-reply-spec = tie.close (tie.spec state-of-requires returns)

@@ -1,0 +1,33 @@
+-- The forms of the store's inner contracts.
+use mathlib.Core.Path.{_≡_}
+use mathlib.Core.Bool.{Bool, true, false}
+use mathlib.Core.List.{List, []}
+use Prim.Native.Nat.{ℕ}
+use Rattle.definition.specs.Tools.{Bytes, pick}
+use Rattle.definition.specs.Codec.{laid}
+use Rattle.definition.specs.Program.{Prog, flat}
+use Rattle.definition.specs.Calls.{Said, isDebris, isFull, putOr, putAgain}
+use Rattle.definition.specs.declared.Step.{Step}
+use Rattle.definition.specs.declared.Fault.{Fault}
+use Rattle.definition.specs.declared.Health.{Health}
+use Rattle.definition.specs.declared.Answer.{Answer}
+use Rattle.definition.specs.declared.GetAnswer.{GetAnswer}
+use Rattle.definition.specs.declared.GetReply.{GetReply}
+use Rattle.gate.specs.Forms.{Says, stateOf}
+
+-- a put that a recovery clears the way for
+unfoldable pub retried : Health → Fault → Bool
+retried h e = pick (isDebris h) (isFull e) false
+
+-- a put on a store that is ready
+abbrev pub putReady : Bytes → Bytes → Health → Prog Bytes (Said Answer)
+putReady k v h = putOr flat k v h (putAgain flat k v h)
+
+abbrev pub getOf : GetAnswer → Health → Step → GetReply
+getOf a h t = record { answer = a; state = stateOf h t; calls = t .calls }
+
+-- p says r and hands out bytes, which are then at the front of the output
+pub record Gets (p : Prog Bytes (Said GetAnswer)) (s script : Bytes) (t : Step) (b : Bytes) (r : GetReply) (out after : Bytes) : Type 0 where
+  pub handed : Bytes
+  pub says : Says p s script t b (r .answer) (r .state) (r .calls) handed
+  pub output : after ≡ laid handed out
