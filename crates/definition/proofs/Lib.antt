@@ -7,3 +7,14 @@ pub mod Image
 pub mod Computes
 pub mod Examples
 pub mod Session
+-- What the promise rests on, over any map of items: it stands here so that an edit of the definition which breaks it is refused here.
+pub mod Ensures
+pub mod MapLaws
+pub mod FlatLaws
+pub mod Overlay
+pub mod StandsFor
+pub mod Recovers
+pub mod Answers
+pub mod Batches
+pub mod Listings
+pub mod Scans
