@@ -6,6 +6,8 @@ pub mod Items
 pub mod Image
 pub mod Computes
 pub mod Examples
+pub mod Determined
+pub mod Otherwise
 pub mod Session
 -- What the promise rests on, over any map of items: it stands here so that an edit of the definition which breaks it is refused here.
 pub mod Ensures
