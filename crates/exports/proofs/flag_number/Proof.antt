@@ -1,0 +1,16 @@
+use mathlib.Core.Path.{_≡_, refl, sym, ap, ap₂, _∙_}
+use Prim.Native.Nat.{ℕ}
+use Rattle.exports.specs.Forms.{flagNumber}
+use Rattle.exports.proofs.flag_number.Statement.{statement}
+use Rattle.exports.proofs.flag_number.Tie as tie
+
+returns : tie.Need-returns
+unfolding flagNumber
+returns c = sym (ap flagNumber (c .if1 .taken))
+
+returns-2 : tie.Need-returns-2
+unfolding flagNumber
+returns-2 c = sym (ap flagNumber (c .if1 .left))
+
+pub flag-number-spec : {M : Type 1} → statement M
+flag-number-spec = tie.close (tie.spec returns returns-2)

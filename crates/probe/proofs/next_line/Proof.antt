@@ -1,0 +1,81 @@
+use Rattle.probe.proofs.Laws.{met-visit}
+use borrow.Author.Needs.{needs}
+use Rattle.probe.proofs.next_line.Statement.{statement}
+use Rattle.probe.proofs.next_line.Tie as tie
+
+slice-aggregate-put : tie.Need-slice-aggregate-put
+slice-aggregate-put c = search needs
+
+put-requires : tie.Need-put-requires
+put-requires c κs = search needs
+
+iterate-next-requires : tie.Need-iterate-next-requires
+iterate-next-requires c κs = search needs
+
+enum-known-met : tie.Need-enum-known-met
+enum-known-met c = search needs
+
+put-met-requires : tie.Need-put-met-requires
+put-met-requires c κs = met-visit (c .before .before .before .before .iterate-next .ensures) (c .before .before .met .given .1)
+
+put-step-requires : tie.Need-put-step-requires
+put-step-requires c κs = search needs
+
+place-after-requires : tie.Need-place-after-requires
+place-after-requires c κs = search needs
+
+steps-requires : tie.Need-steps-requires
+steps-requires c κs = search needs
+
+waits-requires : tie.Need-waits-requires
+waits-requires c κs = search needs
+
+enum-known-fault : tie.Need-enum-known-fault
+enum-known-fault c = search needs
+
+put-refused-requires : tie.Need-put-refused-requires
+put-refused-requires c κs = search needs
+
+put-step-requires-2 : tie.Need-put-step-requires-2
+put-step-requires-2 c κs = search needs
+
+steps-requires-2 : tie.Need-steps-requires-2
+steps-requires-2 c κs = search needs
+
+waits-requires-2 : tie.Need-waits-requires-2
+waits-requires-2 c κs = search needs
+
+same-length : tie.Need-same-length
+same-length c = search needs
+
+returns : tie.Need-returns
+returns c = search needs
+
+same-length-2 : tie.Need-same-length-2
+same-length-2 c = search needs
+
+returns-2 : tie.Need-returns-2
+returns-2 c = search needs
+
+pub next-line-spec : {M : Type 1} → statement M
+next-line-spec =
+    tie.close
+    (tie.spec
+    slice-aggregate-put
+    put-requires
+    iterate-next-requires
+    enum-known-met
+    put-met-requires
+    put-step-requires
+    place-after-requires
+    steps-requires
+    waits-requires
+    enum-known-fault
+    put-refused-requires
+    put-step-requires-2
+    steps-requires-2
+    waits-requires-2
+    same-length
+    returns
+    same-length-2
+    returns-2)

@@ -1,0 +1,27 @@
+-- The words of a line: runs of bytes that are no space, with spaces between them.
+use mathlib.Core.Path.{_≡_}
+use mathlib.Core.Bool.{Bool, true, false}
+use mathlib.Core.List.{List, [], _∷_}
+use Prim.Native.Nat.{ℕ, suc, _+_, _≤_}
+use lib.ListN.{length, drop}
+use lib.Dec.{eqb}
+use Rattle.bytes.specs.Bytes.{indexOf, slice}
+use Rattle.definition.specs.Tools.{Bytes, pick}
+use Rattle.text.specs.declared.Field.{Field}
+
+-- how many spaces stand in front
+unfoldable pub spaces : Bytes → ℕ
+spaces [] = 0
+spaces (x ∷ xs) = pick (eqb x 32) (suc (spaces xs)) 0
+
+-- r is the first place of s, from `at` on, that is no space
+pub record Skips (s : Bytes) (at r : ℕ) : Type 0 where
+  pub is : r ≡ at + spaces (drop at s)
+  pub inside : r ≤ length s
+
+-- r is the next word of s, from `at` on: after the spaces that stand there, and to the next space or the end
+pub record NextWord (s : Bytes) (at : ℕ) (r : Field) : Type 0 where
+  pub from : r .from ≡ at + spaces (drop at s)
+  pub to : r .to ≡ r .from + indexOf 32 (slice (r .from) (length s) s)
+  pub order : r .from ≤ r .to
+  pub inside : r .to ≤ length s
