@@ -4,6 +4,8 @@ pub mod Codecs
 pub mod Records
 pub mod Items
 pub mod Image
+pub mod Windows
+pub mod ScanRuns
 pub mod Computes
 pub mod Examples
 pub mod Determined

@@ -1,0 +1,111 @@
+-- One operation that passed the batch's tests: its entry fits and is what is stored, and landing it does it and removes its journal item.
+use mathlib.Core.Path.{_≡_, refl, sym, ap, ap₂, _∙_, subst}
+use mathlib.Core.Bool.{Bool, true, false}
+use mathlib.Core.List.{List, [], _∷_, _++_}
+use mathlib.Core.Option.{Option, none, some}
+use Prim.Native.Nat.{ℕ, _+_, _≤_, _<_}
+use native.Mathlib.Omega.{arith}
+use lib.ListN.{length, take, drop, length-append, length-take}
+use lib.Seq.{take-append-seam}
+use borrow.Author.Tests.{le-ltb, ltb-false}
+use Rattle.definition.specs.Tools.{Bytes, opt}
+use Rattle.definition.specs.Codec.{Op, Put, Delete, opKey, opValue, longKey, longValue, opFault, encode, encodeInto, laid, laidIf, be16, journalKey}
+use Rattle.definition.specs.Region.{Item, item, keyLimit, allowed}
+use Rattle.definition.specs.Program.{Prog, onP, _▷_, flat, store, remove}
+use Rattle.definition.specs.Recovery.{act, land}
+use Rattle.definition.proofs.Choices.{pick-no, opt-none}
+use Rattle.definition.proofs.Codecs.{Fine, fine}
+use Rattle.definition.proofs.Records.{allowed-yes}
+use Rattle.definition.specs.declared.Step.{Step}
+use Rattle.definition.specs.declared.Fault.{Fault}
+use Rattle.definition.specs.declared.CodecAnswer.{CodecAnswer}
+use Rattle.definition.specs.declared.CodecAnswer.the-variants.{Len, Refused}
+use Rattle.codec.specs.declared.OpKind.{OpKind}
+use Rattle.codec.specs.declared.OpKind.the-variants as K
+use Rattle.codec.specs.Forms.{opAs, Encodes}
+use Rattle.recovery.proofs.Entries.{act-put, act-delete}
+use Rattle.items.specs.declared.ItemAnswer.{ItemAnswer}
+use Rattle.items.specs.declared.ItemAnswer.the-variants.{Done, Failed}
+use Rattle.items.specs.Forms.{Ran}
+use Rattle.items.proofs.Along.{ran-as, seq-failed, seq-on}
+
+-- ---- its lengths
+
+record Short (op : Op) : Type 0 where
+  key : length (opKey op) ≤ 96
+  value : length (opValue op) ≤ 256
+
+short : (op : Op) → opFault op ≡ none → Short op
+unfolding longKey longValue
+short op e = let h = fine op e in record { key = ltb-false 96 _ (h .short); value = ltb-false 256 _ (h .small) }
+
+-- ---- its entry
+
+module _ (op : Op) (e : opFault op ≡ none) {out after : Bytes} {r : CodecAnswer} (h : Encodes op out after r) (room : length out ≡ 354) where
+  entry-small : length (encode op) ≤ 354
+  unfolding encode
+  entry-small = let s = short op e in omega (arith, length-append (opKey op) (opValue op))
+
+  encoded : r ≡ Len (length (encode op))
+  unfolding encodeInto
+  encoded =
+      let s = entry-small in
+      let l : length (encode op) ≤ length out = omega arith in
+      h .is ∙ opt-none _ _ e ∙ pick-no _ _ (le-ltb _ _ l)
+
+  pub entry-made : {f : Fault} → r ≡ Refused f → ⊥
+  entry-made q = let p = encoded in let z : _≡_ {A = ℕ} 0 1 = cc in omega arith
+
+  module _ {n : ℕ} (q : r ≡ Len n) where
+    length-is : n ≡ length (encode op)
+    length-is = let p = encoded in cc
+
+    pub entry-is : take n after ≡ encode op
+    unfolding laidIf laid
+    entry-is =
+        ap₂ take length-is (h .made ∙ ap (λ (x : CodecAnswer). laidIf x (encode op) out) encoded)
+        ∙ take-append-seam (encode op) (drop (length (encode op)) out)
+
+    pub entry-length : n ≡ length (take n after)
+    entry-length = length-is ∙ ap length (sym entry-is)
+
+    pub entry-within : n ≤ length after
+    entry-within = omega (arith, entry-length, length-take n after)
+
+    pub entry-allowed : (i : ℕ) {j : Bytes} → j ≡ journalKey i → allowed (length j) (length (take n after)) ≡ true
+    unfolding journalKey be16
+    entry-allowed i {j} ej =
+        let four : length j ≡ 4 = ap length ej in
+        let k : length j ≤ 96 = omega arith in
+        allowed-yes (length j) (length (take n after)) k (omega (arith, entry-length, length-is, entry-small))
+
+    pub entry-stored : (i : ℕ) {j s script b : Bytes} {t : Step} {a : ItemAnswer} → j ≡ journalKey i → Ran (store flat (item j (take n after))) s script t b a
+        → Ran (store flat (item (journalKey i) (encode op))) s script t b a
+    entry-stored i ej x = ran-as (ap₂ (λ (k v : Bytes). store flat (item k v)) (sym ej) (sym entry-is)) x
+
+-- ---- what it does
+
+module _ {kind : OpKind} (k v : Bytes) where
+  pub put-allowed : kind ≡ K.Put → opFault (opAs kind k v) ≡ none → allowed (length k) (length v) ≡ true
+  unfolding opAs opKey opValue
+  put-allowed q e =
+      let s = short (Put k v) (subst (λ (x : OpKind). opFault (opAs x k v) ≡ none) q e) in
+      allowed-yes (length k) (length v) (s .key) (omega arith)
+
+  module _ {s script b : Bytes} {t : Step} {r : ItemAnswer} where
+    pub acts-put : kind ≡ K.Put → Ran (store flat (item k v)) s script t b r → Ran (act flat (opAs kind k v)) s script t b r
+    unfolding opAs
+    acts-put q x = ran-as (ap (λ (o : OpKind). act flat (opAs o k v)) q ∙ act-put k v) x
+
+    pub acts-delete : kind ≡ K.Delete → Ran (remove flat k) s script t b r → Ran (act flat (opAs kind k v)) s script t b r
+    unfolding opAs
+    acts-delete q x = ran-as (ap (λ (o : OpKind). act flat (opAs o k v)) q ∙ act-delete k) x
+
+module _ (i : ℕ) (op : Op) {s script b : Bytes} {t : Step} {r : ItemAnswer} (h : Ran (act flat op) s script t b r) where
+  pub land-failed : {f : Fault} {t1 : Step} → r ≡ Failed f t1 → Ran (land flat i op) s script t b r
+  unfolding land
+  land-failed e = seq-failed (λ x. remove flat (journalKey i)) h e
+
+  pub land-on : {t1 : Step} {j b2 : Bytes} {r2 : ItemAnswer} → r ≡ Done t1 → j ≡ journalKey i → Ran (remove flat j) b script t1 b2 r2 → Ran (land flat i op) s script t b2 r2
+  unfolding land
+  land-on e ej n = seq-on (λ x. remove flat (journalKey i)) h e (ran-as (ap (remove flat) (sym ej)) n)

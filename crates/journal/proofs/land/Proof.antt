@@ -1,0 +1,49 @@
+use Rattle.journal.proofs.Operations.{land-failed, land-on}
+use borrow.Author.Needs.{needs}
+use Rattle.journal.proofs.land.Statement.{statement}
+use Rattle.journal.proofs.land.Tie as tie
+
+act-requires : tie.Need-act-requires
+act-requires c κs = search needs
+
+enum-known-acted : tie.Need-enum-known-acted
+enum-known-acted c = search needs
+
+enum-told : tie.Need-enum-told
+enum-told c = search needs
+
+same-length : tie.Need-same-length
+same-length c = search needs
+
+returns : tie.Need-returns
+returns c = land-failed _ _ (c .before .before .before .before .act .ensures) (c .enum-told .given .1)
+
+journal-key-requires : tie.Need-journal-key-requires
+journal-key-requires c κs = search needs
+
+slice-aggregate-remove : tie.Need-slice-aggregate-remove
+slice-aggregate-remove c = search needs
+
+remove-requires : tie.Need-remove-requires
+remove-requires c κs = search needs
+
+same-length-2 : tie.Need-same-length-2
+same-length-2 c = search needs
+
+returns-2 : tie.Need-returns-2
+returns-2 c = land-on _ _ (c .before .before .before .before .before .before .before .before .before .before .before .act .ensures) (c .before .before .before .before .before .before .before .acted .given .1) (c .before .before .before .before .before .journal-key .ensures) (c .before .before .remove .ensures)
+
+pub land-spec : {M : Type 1} → statement M
+land-spec =
+    tie.close
+    (tie.spec
+    act-requires
+    enum-known-acted
+    enum-told
+    same-length
+    returns
+    journal-key-requires
+    slice-aggregate-remove
+    remove-requires
+    same-length-2
+    returns-2)
