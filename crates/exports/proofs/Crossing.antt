@@ -10,10 +10,11 @@ use Rattle.definition.specs.declared.Fault.{Fault}
 use Rattle.definition.specs.declared.Answer.{Answer}
 use Rattle.definition.specs.declared.GetAnswer.{GetAnswer}
 use Rattle.definition.specs.declared.TruthAnswer.{TruthAnswer}
+use Rattle.definition.specs.declared.Scanned.{Scanned}
 use Rattle.numbers.specs.declared.Three.{Three}
 use Rattle.numbers.specs.Forms.{valuesThree}
 use Rattle.exports.specs.declared.CReply.{CReply}
-use Rattle.exports.specs.Forms.{healthNumber, flagNumber, built, refused, answerOut, getOut, truthOut, Replies, Gets, Truths}
+use Rattle.exports.specs.Forms.{healthNumber, flagNumber, built, refused, answerOut, getOut, truthOut, scanOut, Replies, Gets, Truths, Lists}
 
 abbrev crossed : ℕ → ℕ → Three → ℕ → ℕ → ℕ → ℕ → ℕ → ℕ → CReply
 crossed a n v count len h at cut calls =
@@ -41,4 +42,12 @@ module _ {b : Bytes} {r : CReply} {st : State} {n : ℕ} where
         reply = er ∙ ap (λ (o : Outcome GetAnswer). getOut (o .answer) (o .state) (o .calls)) e;
         bytes = ap (λ (o : Outcome GetAnswer). o .region) e;
         handed = ap (λ (o : Outcome GetAnswer). o .output) e;
+      }
+
+  pub lists : {a : Scanned} {out : Bytes} {o : Outcome Scanned} → r ≡ scanOut a st n → outcome a st n b out ≡ o → Lists r b out o
+  lists er e =
+      record {
+        reply = er ∙ ap (λ (o : Outcome Scanned). scanOut (o .answer) (o .state) (o .calls)) e;
+        bytes = ap (λ (o : Outcome Scanned). o .region) e;
+        made = ap (λ (o : Outcome Scanned). o .output) e;
       }

@@ -17,6 +17,9 @@ use Rattle.definition.specs.declared.GetAnswer.{GetAnswer}
 use Rattle.definition.specs.declared.GetAnswer.the-variants as G
 use Rattle.definition.specs.declared.TruthAnswer.{TruthAnswer}
 use Rattle.definition.specs.declared.TruthAnswer.the-variants as T
+use Rattle.definition.specs.declared.ScanEnd.{ScanEnd}
+use Rattle.definition.specs.declared.ScanEnd.the-variants as E
+use Rattle.definition.specs.declared.Scanned.{Scanned}
 use Rattle.numbers.specs.declared.Three.{Three}
 use Rattle.numbers.specs.Forms.{threeOf, valuesThree}
 use Rattle.exports.specs.declared.CState.{CState}
@@ -70,6 +73,15 @@ truthOut T.Yes st n = built 1 0 (threeOf 0 0 0) 0 0 st n
 truthOut T.No st n = built 2 0 (threeOf 0 0 0) 0 0 st n
 truthOut (T.Refused f) st n = refused f 0 0 st n
 
+abbrev pub endOut : ScanEnd → ℕ → ℕ → State → ℕ → CReply
+endOut E.Finished count length st n = built 1 0 (threeOf 0 0 0) count length st n
+endOut E.Stopped count length st n = built 2 0 (threeOf 0 0 0) count length st n
+endOut E.NoRoom count length st n = built 3 0 (threeOf 0 0 0) count length st n
+endOut (E.Refused f) count length st n = refused f count length st n
+
+abbrev pub scanOut : Scanned → State → ℕ → CReply
+scanOut a st n = endOut (a .end) (a .count) (a .length) st n
+
 -- the reply and the region after a call are those of the definition's outcome
 pub record Replies (r : CReply) (region : Bytes) (o : Outcome Answer) : Type 0 where
   pub reply : r ≡ answerOut (o .answer) (o .state) (o .calls)
@@ -83,3 +95,8 @@ pub record Gets (r : CReply) (region output : Bytes) (o : Outcome GetAnswer) : T
   pub reply : r ≡ getOut (o .answer) (o .state) (o .calls)
   pub bytes : region ≡ o .region
   pub handed : output ≡ o .output
+
+pub record Lists (r : CReply) (region output : Bytes) (o : Outcome Scanned) : Type 0 where
+  pub reply : r ≡ scanOut (o .answer) (o .state) (o .calls)
+  pub bytes : region ≡ o .region
+  pub made : output ≡ o .output

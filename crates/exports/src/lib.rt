@@ -6,6 +6,8 @@ use definition::GetAnswer;
 use definition::GetReply;
 use definition::Health;
 use definition::Reply;
+use definition::ScanEnd;
+use definition::ScanReply;
 use definition::State;
 use definition::TruthAnswer;
 use definition::TruthReply;
@@ -14,7 +16,7 @@ ghost use mathlib.Core.Path.{_≡_};
 ghost use mathlib.Core.List.{[]};
 ghost use Rattle.definition.specs.Public;
 ghost use Rattle.definition.specs.Public.{outcome};
-ghost use Rattle.exports.specs.Forms.{healthNumber, healthOf, flagNumber, stateIn, built, refused, answerOut, getOut, truthOut, Replies, Gets, Truths};
+ghost use Rattle.exports.specs.Forms.{healthNumber, healthOf, flagNumber, stateIn, built, refused, answerOut, getOut, truthOut, endOut, scanOut, Replies, Gets, Truths, Lists};
 
 // What a host keeps: health 0 Clean, 1 Debris, 2 Pending; the place in the script; whether the power is cut.
 #[repr(C)]
@@ -151,6 +153,33 @@ fn truth_out(answer: TruthAnswer, state: State, calls: u64) -> CReply
     }
 }
 
+// A refused scan keeps the count and the length of the records that stand.
+fn scan_out(end: ScanEnd, count: u64, length: u64, state: State, calls: u64) -> CReply
+    ensures { λ r. ⌜ r ≡ endOut end count length state calls ⌝ }
+{
+    match end {
+        ScanEnd::Finished => built_of(1, 0, Three(0, 0, 0), count, length, state, calls),
+        ScanEnd::Stopped => built_of(2, 0, Three(0, 0, 0), count, length, state, calls),
+        ScanEnd::NoRoom => built_of(3, 0, Three(0, 0, 0), count, length, state, calls),
+        ScanEnd::Refused(fault) => refused_of(fault, count, length, state, calls),
+    }
+}
+
+fn scan_reply_out(reply: ScanReply) -> CReply
+    ensures { λ r. ⌜ r ≡ scanOut (reply .answer) (reply .state) (reply .calls) ⌝ }
+{
+    let answer = reply.answer;
+    let end = answer.end;
+    let state = reply.state;
+    scan_out(
+        end,
+        answer.count as u64,
+        answer.length as u64,
+        state,
+        reply.calls,
+    )
+}
+
 fn reply_out(reply: Reply) -> CReply
     ensures { λ r. ⌜ r ≡ answerOut (reply .answer) (reply .state) (reply .calls) ⌝ }
 {
@@ -234,4 +263,32 @@ pub extern "C" fn takes_delete(
 {
     let state = state_in(state);
     truth_reply_out(store::delete(region, script, state, key))
+}
+
+#[no_mangle]
+pub extern "C" fn takes_batch(
+    region: &mut [u8],
+    script: &[u8],
+    state: CState,
+    list: &[u8],
+) -> CReply
+    ensures { λ r. ⌜ Replies r (now (region .exit)) (Public.applyBatch (now (region .entry)) (now (script .entry)) (stateIn state) (now (list .entry))) ⌝ }
+{
+    let state = state_in(state);
+    reply_out(batch::apply_batch(region, script, state, list))
+}
+
+#[no_mangle]
+pub extern "C" fn takes_scan(
+    region: &mut [u8],
+    script: &[u8],
+    state: CState,
+    prefix: &[u8],
+    most: u64,
+    out: &mut [u8],
+) -> CReply
+    ensures { λ r. ⌜ Lists r (now (region .exit)) (now (out .exit)) (Public.scanPrefix (now (region .entry)) (now (script .entry)) (stateIn state) (now (prefix .entry)) most (now (out .entry))) ⌝ }
+{
+    let state = state_in(state);
+    scan_reply_out(listing::scan_prefix(region, script, state, prefix, most as usize, out))
 }
