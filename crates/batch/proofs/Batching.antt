@@ -3,14 +3,14 @@ use mathlib.Core.Path.{_≡_, refl, sym, ap, _∙_, subst}
 use mathlib.Core.Bool.{Bool, true, false, not}
 use mathlib.Core.List.{List, [], _∷_}
 use mathlib.Core.Option.{Option, none, some}
-use Prim.Native.Nat.{ℕ, suc}
+use Prim.Native.Nat.{ℕ}
 use native.Mathlib.Omega.{arith}
 use lib.ListN.{length}
 use Rattle.definition.specs.Tools.{Bytes, opt}
 use Rattle.definition.specs.Codec.{Op, markerKey, marker, laid}
 use Rattle.definition.specs.Region.{item, good}
 use Rattle.definition.specs.OperationList.{opsOf}
-use Rattle.definition.specs.Program.{Prog, onP, flat, store}
+use Rattle.definition.specs.Program.{Prog, flat, store}
 use Rattle.definition.specs.Calls.{Said, say, isClean, gate, batchFault, journal, apply, finish, readBack, applyAll, commit, journalAll, batch, batchOf}
 use Rattle.definition.specs.Public.{outcome, begin, applyBatch}
 use Rattle.definition.proofs.Choices.{opt-none, opt-some}

@@ -1,20 +1,19 @@
 -- The three walks over a list: the tests of its operations, and what is done with each in turn.
 use mathlib.Core.Path.{_≡_, refl, sym, ap, ap₂, _∙_}
-use mathlib.Core.Bool.{Bool, true, false}
+use mathlib.Core.Bool.{true}
 use mathlib.Core.List.{List, [], _∷_}
 use mathlib.Core.Option.{Option, none, some}
-use Prim.Native.Nat.{ℕ, zero, suc, _+_, _≤_, _<_}
+use Prim.Native.Nat.{ℕ, suc, _+_, _≤_, _<_}
 use native.Mathlib.Omega.{arith}
-use native.Mathlib.Nat.{zero-add}
 use native.Mathlib.Numerals.{add-one}
 use lib.ListN.{length, drop}
 use lib.Dec.{ltb}
 use borrow.Author.Tests.{lt-ltb, le-ltb, ltb-false}
-use Rattle.definition.specs.Tools.{Bytes, pick, opt}
+use Rattle.definition.specs.Tools.{Bytes, opt}
 use Rattle.definition.specs.Codec.{Op, Put, opFault, encode, markerKey, journalKey, batchLimit}
 use Rattle.definition.specs.Region.{item, good}
 use Rattle.definition.specs.OperationList.{opAt}
-use Rattle.definition.specs.Program.{Prog, ret, err, onP, _▷_, flat, store, remove}
+use Rattle.definition.specs.Program.{Prog, err, _▷_, flat, store, remove}
 use Rattle.definition.specs.Recovery.{land}
 use Rattle.definition.specs.Calls.{opsFault, batchFault, journal, apply}
 use Rattle.definition.proofs.Choices.{pick-yes, pick-no, opt-none, opt-some, bool}
@@ -31,7 +30,7 @@ use Rattle.region.specs.Places.{keyAt, valueAt}
 use Rattle.items.specs.declared.ItemAnswer.{ItemAnswer}
 use Rattle.items.specs.declared.ItemAnswer.the-variants.{Done, Failed}
 use Rattle.items.specs.Forms.{Ran}
-use Rattle.items.proofs.Along.{Left, left-start, left-as, left-end, left-turn, ran-as, ran-done, ran-runs, runs-ran, runs-ret, done-ran, seq-failed}
+use Rattle.items.proofs.Along.{Left, left-start, left-as, left-end, left-turn, ran-done, ran-runs, runs-ran, runs-ret, done-ran, seq-failed}
 use Rattle.oplist.specs.Places.{Met, Walk, opsFrom, opsIn}
 use Rattle.oplist.proofs.Walks.{walk-on, walk-op, walk-over, fault-of}
 use Rattle.batch.specs.Forms.{Tested}
@@ -142,10 +141,10 @@ module _ (p : ℕ → List Op → Prog Bytes (Unit {0})) where
 
 -- the two programs of that form
 
-abbrev pub entryOf : ℕ → Op → Prog Bytes (Unit {0})
-entryOf i op = store flat (item (journalKey i) (encode op))
+abbrev pub entered : ℕ → Op → Prog Bytes (Unit {0})
+entered i op = store flat (item (journalKey i) (encode op))
 
-pub journal-turn : (i : ℕ) (op : Op) (ops : List Op) → journal flat i (op ∷ ops) ≡ (entryOf i op ▷ λ x. journal flat (suc i) ops)
+pub journal-turn : (i : ℕ) (op : Op) (ops : List Op) → journal flat i (op ∷ ops) ≡ (entered i op ▷ λ x. journal flat (suc i) ops)
 unfolding journal
 journal-turn i op ops = refl
 

@@ -210,7 +210,7 @@ fn batch(
     journal_all(region, script, count as u16, list, next)
 }
 
-// The list's shape first.
+// The list's shape, before anything of its operations.
 fn batch_of(region: &mut [u8], script: &[u8], list: &[u8], health: Health, step: Step) -> Reply
     requires { ⌜ good (now region) ≡ true ⌝ }
     ensures { λ r. ⌜ Says (batchOf flat (opsOf (now (list .entry))) health) (now (region .entry)) (now (script .entry)) step (now (region .exit)) (r .answer) (r .state) (r .calls) [] ⌝ }
@@ -221,6 +221,7 @@ fn batch_of(region: &mut [u8], script: &[u8], list: &[u8], health: Health, step:
     batch(region, script, list, count, health, step)
 }
 
+// The image first: on a bad one nothing is read of the list, and no item call is made.
 pub fn apply_batch(region: &mut [u8], script: &[u8], state: State, list: &[u8]) -> Reply
     ensures { λ r. ⌜ outcome (r .answer) (r .state) (r .calls) (now (region .exit)) [] ≡ applyBatch (now (region .entry)) (now (script .entry)) state (now (list .entry)) ⌝ }
 {

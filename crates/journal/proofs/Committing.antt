@@ -1,18 +1,16 @@
 -- The marker, and what is said from the commit point on.
-use mathlib.Core.Path.{_≡_, refl, sym, ap, ap₂, _∙_, subst}
+use mathlib.Core.Path.{_≡_, sym, ap, ap₂, _∙_, subst}
 use mathlib.Core.Bool.{Bool, true, false}
-use mathlib.Core.List.{List, []}
-use mathlib.Core.Option.{Option, none, some}
+use mathlib.Core.List.{[]}
+use mathlib.Core.Option.{Option}
 use Prim.Native.Nat.{ℕ}
-use native.Mathlib.Omega.{arith}
 use lib.ListN.{length, take, drop}
-use lib.Dec.{eqb}
 use borrow.Author.Tests.{eq-eqb, ne-eqb}
 use Rattle.definition.specs.Tools.{Bytes, pick, eqs}
 use Rattle.definition.specs.Codec.{be16, marker, markerKey}
 use Rattle.definition.specs.Region.{item, good, allowed}
 use Rattle.definition.specs.Numbers.{number}
-use Rattle.definition.specs.Program.{Prog, World, world, bad, flat, store, remove, fetch}
+use Rattle.definition.specs.Program.{Prog, world, bad, flat, store, remove, fetch}
 use Rattle.definition.specs.Recovery.{recover}
 use Rattle.definition.specs.Calls.{Said, say, settled, isMarker, finish, readBack}
 use Rattle.definition.proofs.Choices.{pick-yes, pick-no}
@@ -34,7 +32,7 @@ use Rattle.items.specs.declared.FetchAnswer.{FetchAnswer}
 use Rattle.items.specs.declared.FetchAnswer.the-variants.{Got, Missed}
 use Rattle.items.specs.Forms.{Runs, Ran, Fetches, GotInside, failureOf, unfetchedOf}
 use Rattle.items.proofs.Along.{ran-as, ran-done, ran-failed, fetch-done, fetch-failed}
-use Rattle.gate.specs.Forms.{stateOf, replyOf, Says}
+use Rattle.gate.specs.Forms.{replyOf, Says}
 use Rattle.gate.proofs.Saying.{says-ret, says-as, says-on, says-else, as-reply}
 
 -- ---- the marker

@@ -1,20 +1,19 @@
 -- One operation that passed the batch's tests: its entry fits and is what is stored, and landing it does it and removes its journal item.
-use mathlib.Core.Path.{_≡_, refl, sym, ap, ap₂, _∙_, subst}
-use mathlib.Core.Bool.{Bool, true, false}
-use mathlib.Core.List.{List, [], _∷_, _++_}
-use mathlib.Core.Option.{Option, none, some}
-use Prim.Native.Nat.{ℕ, _+_, _≤_, _<_}
+use mathlib.Core.Path.{_≡_, sym, ap, ap₂, _∙_, subst}
+use mathlib.Core.Bool.{true}
+use mathlib.Core.Option.{none}
+use Prim.Native.Nat.{ℕ, _≤_}
 use native.Mathlib.Omega.{arith}
 use lib.ListN.{length, take, drop, length-append, length-take}
 use lib.Seq.{take-append-seam}
 use borrow.Author.Tests.{le-ltb, ltb-false}
-use Rattle.definition.specs.Tools.{Bytes, opt}
+use Rattle.definition.specs.Tools.{Bytes}
 use Rattle.definition.specs.Codec.{Op, Put, Delete, opKey, opValue, longKey, longValue, opFault, encode, encodeInto, laid, laidIf, be16, journalKey}
-use Rattle.definition.specs.Region.{Item, item, keyLimit, allowed}
-use Rattle.definition.specs.Program.{Prog, onP, _▷_, flat, store, remove}
+use Rattle.definition.specs.Region.{item, allowed}
+use Rattle.definition.specs.Program.{flat, store, remove}
 use Rattle.definition.specs.Recovery.{act, land}
 use Rattle.definition.proofs.Choices.{pick-no, opt-none}
-use Rattle.definition.proofs.Codecs.{Fine, fine}
+use Rattle.definition.proofs.Codecs.{fine}
 use Rattle.definition.proofs.Records.{allowed-yes}
 use Rattle.definition.specs.declared.Step.{Step}
 use Rattle.definition.specs.declared.Fault.{Fault}
@@ -53,8 +52,8 @@ module _ (op : Op) (e : opFault op ≡ none) {out after : Bytes} {r : CodecAnswe
       let l : length (encode op) ≤ length out = omega arith in
       h .is ∙ opt-none _ _ e ∙ pick-no _ _ (le-ltb _ _ l)
 
-  pub entry-made : {f : Fault} → r ≡ Refused f → ⊥
-  entry-made q = let p = encoded in let z : _≡_ {A = ℕ} 0 1 = cc in omega arith
+  pub never-refused : {f : Fault} → r ≡ Refused f → ⊥
+  never-refused q = let p = encoded in let z : _≡_ {A = ℕ} 0 1 = cc in omega arith
 
   module _ {n : ℕ} (q : r ≡ Len n) where
     length-is : n ≡ length (encode op)

@@ -6,7 +6,7 @@ use mathlib.Core.Option.{Option, none, some, Option·map}
 use Prim.Native.Nat.{ℕ, zero, suc, _+_, _-_, _*_, _≤_, _<_}
 use native.Mathlib.Nat.{le-refl, add-assoc}
 use native.Mathlib.Omega.{arith}
-use lib.Dec.{eqb, leb}
+use lib.Dec.{eqb}
 use borrow.Author.Tests.{le-leb, lt-leb, ne-eqb}
 use lib.ListN.{length, getD, drop, length-drop}
 use lib.Seq.{getD-drop}
@@ -15,12 +15,11 @@ use Rattle.definition.specs.Codec.{Op, Put, Delete}
 use Rattle.definition.specs.Region.{Item, le16At, headSize, size, agrees, keySize, valueSize, itemAt}
 use Rattle.definition.specs.OperationList.{putKind, deleteKind, opAt, opSize, opsUpTo, opsOf}
 use Rattle.definition.proofs.Choices.{pick-yes, pick-no, opt-none, opt-some}
-use Rattle.region.specs.Places.{keyAt, valueAt}
 use Rattle.region.proofs.Walks.{item-there}
 use Rattle.codec.specs.declared.OpKind.the-variants as K
 use Rattle.codec.specs.Forms.{opAs}
 use Rattle.oplist.specs.declared.Next.the-variants as N
-use Rattle.oplist.specs.Places.{Met, Visit}
+use Rattle.oplist.specs.Places.{Visit}
 
 -- ---- the operations of a list, one at a time
 

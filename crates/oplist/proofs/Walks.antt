@@ -2,7 +2,7 @@
 use mathlib.Core.Path.{_≡_, refl, sym, ap, _∙_, subst}
 use mathlib.Core.List.{List, [], _∷_}
 use mathlib.Core.Option.{Option, none, some, Option·map}
-use Prim.Native.Nat.{ℕ, _+_, _-_, _≤_, _<_}
+use Prim.Native.Nat.{ℕ, _+_, _≤_, _<_}
 use native.Mathlib.Nat.{zero-add, add-zero}
 use native.Mathlib.Omega.{arith}
 use lib.Dec.{eqb}
@@ -14,7 +14,6 @@ use Rattle.definition.specs.Codec.{Op, Put, Delete, opKey, opValue, opFault}
 use Rattle.definition.specs.Region.{headSize}
 use Rattle.definition.specs.OperationList.{opAt, opSize, opsOf}
 use Rattle.definition.proofs.Choices.{bool}
-use Rattle.definition.specs.declared.Fault.{Fault}
 use Rattle.codec.specs.declared.OpKind.{OpKind}
 use Rattle.codec.specs.declared.OpKind.the-variants as K
 use Rattle.codec.specs.Forms.{opAs}

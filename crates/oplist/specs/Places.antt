@@ -1,9 +1,9 @@
 -- Places in an operation list: what stands there, and the operations that are left from there on. Document 01's list is reached through them, so
 -- that a caller needs no byte of a record.
 use mathlib.Core.Path.{_≡_}
-use mathlib.Core.List.{List, [], _∷_}
+use mathlib.Core.List.{List, []}
 use mathlib.Core.Option.{Option, none, some}
-use Prim.Native.Nat.{ℕ, _+_, _≤_, _<_}
+use Prim.Native.Nat.{ℕ, _+_, _≤_}
 use lib.ListN.{length, drop}
 use Rattle.definition.specs.Tools.{Bytes, opt}
 use Rattle.definition.specs.Codec.{Op}

@@ -1,8 +1,6 @@
--- The laws that the functions' proofs cite: what an answer says of lengths, once it is taken apart.
-use mathlib.Core.Path.{_≡_, sym, subst}
-use Prim.Native.Nat.{ℕ, _≤_}
-use lib.ListN.{length, take}
-use lib.Seq.{length-take-le}
+-- The laws that the functions' proofs cite: what an answer says of places, once it is taken apart.
+use mathlib.Core.Path.{_≡_, subst}
+use Prim.Native.Nat.{ℕ}
 use Rattle.definition.specs.Tools.{Bytes}
 use Rattle.definition.specs.declared.Step.{Step}
 use Rattle.region.specs.Places as P
@@ -16,17 +14,6 @@ use Rattle.items.specs.declared.FetchAnswer.{FetchAnswer}
 use Rattle.items.specs.declared.FetchAnswer.the-variants.{Got}
 use Rattle.items.specs.declared.NextAnswer.{NextAnswer}
 use Rattle.items.specs.declared.NextAnswer.the-variants.{Met}
-use Rattle.probe.specs.Bench.{InBuffer, Unhexes}
-use Rattle.probe.specs.declared.Unhexed.{Unhexed}
-use Rattle.probe.specs.declared.Unhexed.the-variants.{Count}
-
--- a count of bytes that were unhexed lies in the buffer
-module _ {out : Bytes} {r : Unhexed} {n : ℕ} (h : Unhexes out r) (e : r ≡ Count n) where
-  pub unhexed-in : n ≤ length out
-  unhexed-in = subst (InBuffer out) e (h .inside)
-
-  pub unhexed-length : n ≡ length (take n out)
-  unhexed-length = sym (length-take-le n out unhexed-in)
 
 -- a value stands where a fetch says, and an item where an iteration stands
 pub spot-inside : (s : Bytes) {x : Spot} {at n : ℕ} → InSpot s x → x ≡ At at n → Inside s at n

@@ -6,6 +6,7 @@ use items::ItemAnswer;
 use items::NextAnswer;
 use region::Next;
 use region::Spot;
+use text::Filled;
 use text::Hex;
 use text::LineKind;
 use text::Numeral;
@@ -16,7 +17,8 @@ ghost use Prim.Native.Nat.{_≤_};
 ghost use lib.ListN.{length};
 ghost use Rattle.definition.specs.Region.{good};
 ghost use Rattle.region.specs.Places.{InSpot, Visit};
-ghost use Rattle.probe.specs.Bench.{Unhexes, Kept};
+ghost use Rattle.text.specs.Words.{Fills};
+ghost use Rattle.probe.specs.Bench.{Kept};
 
 // The largest region of a case, and the largest script: a line holds no more of them.
 const REGION_SIZE: usize = 2048;
@@ -56,12 +58,6 @@ struct Bench {
     region: usize,
     script: usize,
     run: Run,
-}
-
-// What a word in hex says: so many bytes, or nothing that can be read.
-enum Unhexed {
-    Count(usize),
-    Unread,
 }
 
 impl Run {
@@ -149,31 +145,31 @@ fn has_words(command: Command, first: &[u8], second: &[u8], third: &[u8]) -> boo
     }
 }
 
-// The bytes of a word in hex, at the front of a buffer.
-fn unhex(word: &[u8], out: &mut [u8]) -> Unhexed
-    ensures { λ r. ⌜ Unhexes (now (out .exit)) r ⌝ }
+// The bytes of a word in hex, to the front of a buffer.
+fn unhex(word: &[u8], out: &mut [u8]) -> Filled
+    ensures { λ r. ⌜ Fills (now (out .exit)) r ⌝ }
 {
     if check::same(word, b"-") {
-        return Unhexed::Count(0);
+        return Filled::To(0);
     }
     if word.len() % 2 != 0 {
-        return Unhexed::Unread;
+        return Filled::Unread;
     }
     let count = word.len() / 2;
     if out.len() < count {
-        return Unhexed::Unread;
+        return Filled::Unread;
     }
     let mut i: usize = 0;
     while i < count {
         let from = i * 2;
         let to = from + 2;
         let Hex::Value(byte) = text::read_hex(&word[from..to]) else {
-            return Unhexed::Unread;
+            return Filled::Unread;
         };
         out[i] = byte;
         i += 1;
     }
-    Unhexed::Count(count)
+    Filled::To(count)
 }
 
 // ---- writing
@@ -248,14 +244,14 @@ fn set_region(region: &mut [u8], out: &mut [u8], size: &[u8], given: &[u8], benc
         return bad_bench(out, bench);
     }
     let mut bytes = [0u8; REGION_SIZE];
-    let Unhexed::Count(count) = unhex(given, &mut bytes) else {
+    let Filled::To(count) = unhex(given, &mut bytes) else {
         return bad_bench(out, bench);
     };
     if size < count {
         return bad_bench(out, bench);
     }
     erase(region);
-    bytes::copy(&bytes[..count], region);
+    region::copy_in(region, 0, &bytes[..count]);
     let run = bench.run;
     Bench {
         region: size,
@@ -270,13 +266,13 @@ fn set_script(script: &mut [u8], out: &mut [u8], given: &[u8], bench: Bench) -> 
     ensures { λ r. ⌜ (r .region ≡ bench .region) × (r .script ≤ length (now (script .entry))) ⌝ }
 {
     let mut bytes = [0u8; SCRIPT_SIZE];
-    let Unhexed::Count(count) = unhex(given, &mut bytes) else {
+    let Filled::To(count) = unhex(given, &mut bytes) else {
         return bad_bench(out, bench);
     };
     if script.len() < count {
         return bad_bench(out, bench);
     }
-    bytes::copy(&bytes[..count], script);
+    region::copy_in(script, 0, &bytes[..count]);
     let run = bench.run;
     let started = Step {
         at: 0,
@@ -375,11 +371,11 @@ fn store_line(
     requires { ⌜ good (now region) ≡ true ⌝ }
 {
     let mut key_bytes = [0u8; 96];
-    let Unhexed::Count(key_len) = unhex(key, &mut key_bytes) else {
+    let Filled::To(key_len) = unhex(key, &mut key_bytes) else {
         return bad_line(out, run);
     };
     let mut value_bytes = [0u8; 481];
-    let Unhexed::Count(value_len) = unhex(value, &mut value_bytes) else {
+    let Filled::To(value_len) = unhex(value, &mut value_bytes) else {
         return bad_line(out, run);
     };
     store_item(
@@ -396,7 +392,7 @@ fn remove_line(region: &mut [u8], script: &[u8], out: &mut [u8], key: &[u8], run
     requires { ⌜ good (now region) ≡ true ⌝ }
 {
     let mut key_bytes = [0u8; 96];
-    let Unhexed::Count(key_len) = unhex(key, &mut key_bytes) else {
+    let Filled::To(key_len) = unhex(key, &mut key_bytes) else {
         return bad_line(out, run);
     };
     let answer = items::remove(region, script, &key_bytes[..key_len], run.step);
@@ -433,7 +429,7 @@ fn put_fetched(region: &[u8], script: &[u8], out: &mut [u8], key: &[u8], run: Ru
 
 fn fetch_line(region: &[u8], script: &[u8], out: &mut [u8], key: &[u8], run: Run) -> Run {
     let mut key_bytes = [0u8; 96];
-    let Unhexed::Count(key_len) = unhex(key, &mut key_bytes) else {
+    let Filled::To(key_len) = unhex(key, &mut key_bytes) else {
         return bad_line(out, run);
     };
     put_fetched(region, script, out, &key_bytes[..key_len], run)

@@ -1,19 +1,22 @@
 -- The laws that the functions' proofs cite, over plain variables: spaces, digits, and what is held of a line.
 use mathlib.Core.Path.{_≡_, refl, sym, ap, _∙_, subst}
 use mathlib.Core.Bool.{Bool, true, false}
-use mathlib.Core.List.{List, [], _∷_, _++_, append-assoc}
+use mathlib.Core.List.{List, [], _∷_, _++_, append-assoc, append-nil}
 use Prim.Native.Nat.{ℕ, suc, _+_, _-_, _*_, _/_, _^_, _≤_, _<_}
+use native.Mathlib.Nat.{add-zero}
 use native.Mathlib.Numerals.{add-one}
 use native.Mathlib.Omega.{arith}
 use lib.Dec.{T, eqb, leb, ltb}
 use borrow.Author.Tests.{eq-eqb, ne-eqb, le-leb, lt-leb, lt-ltb, le-ltb}
-use lib.ListN.{length, getD, take, drop, drop-of-length-le, length-append}
-use lib.Seq.{drop-cons, take-at, take-length, length-take-le}
+use lib.ListN.{length, getD, take, drop, set, drop-of-length-le, length-set, length-drop}
+use lib.Seq.{drop-cons, take-suc, take-suc-set, take-all, length-take-le}
 use Rattle.definition.specs.Tools.{Bytes, pick}
 use Rattle.definition.proofs.Choices.{pick-yes, pick-no}
-use Rattle.text.specs.Words.{spaces, Skips}
+use Rattle.text.specs.Words.{upTo, Finds, spaces, Skips, NextWord, InBuffer, Fills}
 use Rattle.text.specs.Numerals.{among, numeralFrom, numeralOf, digitOf, Small, joined, pairOf}
 use Rattle.text.specs.Lines.{holdsAll, Holds, Ended, Last, LineRead}
+use Rattle.text.specs.declared.Filled.{Filled}
+use Rattle.text.specs.declared.Filled.the-variants.{To}
 use Rattle.text.specs.declared.Held.{Held}
 use Rattle.text.specs.declared.Unread.{Unread}
 use Rattle.text.specs.declared.LineAnswer.{LineAnswer}
@@ -23,7 +26,42 @@ use Rattle.text.specs.declared.Numeral.the-variants as N
 use Rattle.text.specs.declared.Hex.{Hex}
 use Rattle.text.specs.declared.Hex.the-variants as H
 
--- ---- spaces
+-- ---- the first place of a byte
+
+-- the loop stands at i: the byte is not among those before it
+pub record Seeking (s : Bytes) (b i : ℕ) : Type 0 where
+  pub most : i ≤ length s
+  pub is : upTo b s ≡ i + upTo b (drop i s)
+
+pub seeking-none : (s : Bytes) (b : ℕ) → Seeking s b 0
+seeking-none s b = record { most = omega arith; is = omega arith }
+
+module _ {s : Bytes} {b i : ℕ} (k : Seeking s b i) where
+  up-to : i < length s → upTo b (drop i s) ≡ pick (eqb (getD s i 0) b) 0 (suc (upTo b (drop (suc i) s)))
+  unfolding upTo
+  up-to h = ap (upTo b) (drop-cons s i 0 h)
+
+  pub seeking-hit : i < length s → getD s i 0 ≡ b → Finds s b i
+  seeking-hit h e =
+      let z : upTo b (drop i s) ≡ 0 = up-to h ∙ pick-yes _ _ (eq-eqb _ _ e) in
+      let w = k .is in
+      record { is = omega arith; inside = k .most }
+
+  pub seeking-miss : i < length s → (getD s i 0 ≡ b → ⊥) → Seeking s b (i + 1)
+  seeking-miss h e =
+      let z : upTo b (drop i s) ≡ suc (upTo b (drop (suc i) s)) = up-to h ∙ pick-no _ _ (ne-eqb _ _ e) in
+      let q : drop (i + 1) s ≡ drop (suc i) s = simp add-one in
+      let w = k .is in
+      record { most = omega arith; is = rw q (omega arith) }
+
+  pub seeking-over : length s ≤ i → Finds s b i
+  unfolding upTo
+  seeking-over h =
+      let z : upTo b (drop i s) ≡ 0 = ap (upTo b) (drop-of-length-le s h) in
+      let w = k .is in
+      record { is = omega arith; inside = k .most }
+
+-- ---- words
 
 module _ (s : Bytes) (i : ℕ) where
   spaces-at : i < length s → spaces (drop i s) ≡ pick (eqb (getD s i 0) 32) (suc (spaces (drop (suc i) s))) 0
@@ -50,6 +88,30 @@ module _ {s : Bytes} {at i : ℕ} (m : i ≤ length s) (e : at + spaces (drop at
 
   pub skips-all : length s ≤ i → Skips s at i
   skips-all h = let z = spaces-over s i h in record { is = omega arith; inside = m }
+
+-- a word begins where the spaces end, and ends at the next one
+pub next-word : (s : Bytes) {at first n : ℕ} → Skips s at first → Finds (take (length s - first) (drop first s)) 32 n
+    → NextWord s at (record { from = first; to = first + n })
+next-word s {at} {first} {n} h f =
+    let a = h .is in
+    let b = h .inside in
+    let ld = length-drop first s in
+    let t : take (length s - first) (drop first s) ≡ drop first s = take-all (length s - first) (drop first s) (omega arith) in
+    let g : n ≤ length (drop first s) = rw t at (f .inside) in
+    record {
+      from = a;
+      to = ap (λ (x : ℕ). first + x) (f .is ∙ ap (upTo 32) t);
+      order = omega arith;
+      inside = omega arith;
+    }
+
+-- a count of bytes that were filled lies in the buffer
+module _ {out : Bytes} {r : Filled} {n : ℕ} (h : Fills out r) (e : r ≡ To n) where
+  pub filled-in : n ≤ length out
+  filled-in = subst (InBuffer out) e (h .inside)
+
+  pub filled-length : n ≡ length (take n out)
+  filled-length = sym (length-take-le n out filled-in)
 
 -- ---- a byte among others
 
@@ -187,6 +249,39 @@ module _ (s : Bytes) (two : length s ≡ 2) {h : Hex} (e : h ≡ digitOf (getD s
     unfolding joined
     pair-both u = sym (pair-value ∙ ap (joined (H.Value v)) u)
 
+-- ---- bytes written at a place
+
+-- after i turns r is d with i bytes of p at `at`
+pub record Laid (d p : Bytes) (at i : ℕ) (r : Bytes) : Type 0 where
+  pub long : length r ≡ length d
+  pub most : i ≤ length p
+  pub is : take (at + i) r ≡ take at d ++ take i p
+
+pub laid-none : (d p : Bytes) (at : ℕ) → Laid d p at 0 d
+laid-none d p at = record { long = refl; most = omega arith; is = simp (add-zero, append-nil) }
+
+module _ {d p r : Bytes} {at i : ℕ} (l : Laid d p at i r) where
+  pub laid-more : at + i < length d → i < length p → Laid d p at (i + 1) (set r (at + i) (getD p i 0))
+  laid-more h k =
+      let e = l .long in
+      let x : ℕ = getD p i 0 in
+      let a : at + (i + 1) ≡ suc (at + i) = omega arith in
+      let b : i + 1 ≡ suc i = add-one i in
+      record {
+        long = length-set r (at + i) x ∙ e;
+        most = omega arith;
+        is =
+            rw (a, b)
+            (take-suc-set r (at + i) x (omega arith) ∙ ap (λ (y : Bytes). y ++ (x ∷ [])) (l .is) ∙ append-assoc (take at d) (take i p) (x ∷ [])
+            ∙ ap (λ (y : Bytes). take at d ++ y) (sym (take-suc p i 0 k)));
+      }
+
+  pub laid-all : length p ≤ i → take (at + length p) r ≡ take at d ++ p
+  laid-all h =
+      let m = l .most in
+      let e : i ≡ length p = omega arith in
+      rw (← e) (l .is ∙ ap (λ (y : Bytes). take at d ++ y) (take-all i p h))
+
 -- ---- what is held of a line
 
 no : {b : Bool} {A : Type 0} → b ≡ false → b ≡ true → A
@@ -206,20 +301,13 @@ module _ (line p : Bytes) (h : Held) (inside : h .len ≤ length line) where
         let l : length line < h .len + length p = omega arith in
         record { long = refl; inside = omega arith; fits = sym (pick-yes _ _ e ∙ lt-leb _ _ l); is = λ f. no refl f }
 
-    -- one with room for p: the part y behind the held bytes begins with p
-    pub holds-more : (y z w : Bytes) → length p ≤ length line - h .len → length (take (h .len) line ++ (y ++ w)) ≡ length line → y ≡ take (length p) p ++ z
-        → Holds line h p (take (h .len) line ++ (y ++ w)) (record { len = h .len + length p; fits = true })
+    -- one with room for p
+    pub holds-more : {after : Bytes} → length p ≤ length line - h .len → length after ≡ length line → take (h .len + length p) after ≡ take (h .len) line ++ p
+        → Holds line h p after (record { len = h .len + length p; fits = true })
     unfolding holdsAll
-    holds-more y z w k l f =
+    holds-more k l f =
         let m : h .len + length p ≤ length line = omega arith in
-        let n : length (take (h .len) line ++ p) ≡ h .len + length p = length-append (take (h .len) line) p ∙ ap (λ (x : ℕ). x + length p) (length-take-le (h .len) line inside) in
-        let a : take (h .len) line ++ (y ++ w) ≡ (take (h .len) line ++ p) ++ (z ++ w) = rw f (simp (take-length, append-assoc)) in
-        record {
-          long = l;
-          inside = m;
-          fits = sym (pick-yes _ _ e ∙ le-leb _ _ m);
-          is = λ _. ap (take (h .len + length p)) a ∙ take-at (take (h .len) line ++ p) (z ++ w) (h .len + length p) n;
-        }
+        record { long = l; inside = m; fits = sym (pick-yes _ _ e ∙ le-leb _ _ m); is = λ _. f }
 
 -- ---- how a line ended
 

@@ -2,11 +2,12 @@
 use libc::STDIN_FILENO;
 use libc::STDOUT_FILENO;
 ghost use mathlib.Core.Path.{_≡_};
-ghost use Prim.Native.Nat.{_-_, _≤_, _<_};
+ghost use mathlib.Core.List.{_++_};
+ghost use Prim.Native.Nat.{_+_, _-_, _≤_, _<_};
 ghost use lib.ListN.{length, take, drop};
 ghost use Rattle.io.specs.Digits.{digits};
 ghost use Rattle.io.specs.Digits.{glyph as Digits·glyph};
-ghost use Rattle.text.specs.Words.{Skips, NextWord};
+ghost use Rattle.text.specs.Words.{Finds, Skips, NextWord};
 ghost use Rattle.text.specs.Numerals.{numeralOf, Digit, pairOf};
 ghost use Rattle.text.specs.Lines.{Holds, Ended, Last, LineRead};
 
@@ -20,6 +21,20 @@ const LINE_END: u8 = 10;
 pub struct Field {
     pub from: usize,
     pub to: usize,
+}
+
+// The first place of a byte, or the end.
+pub fn find(bytes: &[u8], byte: u8) -> usize
+    ensures { λ r. ⌜ Finds (now (bytes .entry)) byte r ⌝ }
+{
+    let mut at: usize = 0;
+    while at < bytes.len() {
+        if bytes[at] == byte {
+            return at;
+        }
+        at += 1;
+    }
+    at
 }
 
 // The first place, from a place on, that is no space.
@@ -43,7 +58,7 @@ pub fn next_field(line: &[u8], from: usize) -> Field
     ensures { λ r. ⌜ NextWord (now (line .entry)) from r ⌝ }
 {
     let first = skip_spaces(line, from);
-    let end = bytes::scan::find(line, first, line.len(), SPACE);
+    let end = first + find(&line[first..], SPACE);
     Field {
         from: first,
         to: end,
@@ -58,6 +73,12 @@ pub fn word(line: &[u8], field: Field) -> &[u8]
     let from = field.from;
     let to = field.to;
     &line[from..to]
+}
+
+// How many bytes of a buffer words filled, or that they cannot be read.
+pub enum Filled {
+    To(usize),
+    Unread,
 }
 
 // ---- numbers in text
@@ -227,6 +248,18 @@ struct Held {
     fits: bool,
 }
 
+// Writes bytes at a place.
+fn write_at(line: &mut [u8], at: usize, part: &[u8])
+    requires { ⌜ at + length (now part) ≤ length (now line) ⌝ }
+    ensures { λ _. ⌜ take (at + length (now (part .entry))) (now (line .exit)) ≡ take at (now (line .entry)) ++ now (part .entry) ⌝ }
+{
+    let mut i: usize = 0;
+    while i < part.len() {
+        line[at + i] = part[i];
+        i += 1;
+    }
+}
+
 // Holds some more bytes of a line, if they fit behind those that are held.
 fn hold(line: &mut [u8], held: Held, part: &[u8]) -> Held
     requires { ⌜ held .len ≤ length (now line) ⌝ }
@@ -242,7 +275,7 @@ fn hold(line: &mut [u8], held: Held, part: &[u8]) -> Held
             fits: false,
         };
     }
-    bytes::copy(part, &mut line[len..]);
+    write_at(line, len, part);
     Held {
         len: len + part.len(),
         fits: true,
@@ -296,7 +329,7 @@ pub fn read_line(input: &mut [u8], unread: Unread, line: &mut [u8]) -> LineAnswe
     // A proved loop has to end, and nothing says that the input does: the turns go down from a number that no run uses up.
     let mut turns = u64::MAX;
     while 0 < turns {
-        let end = bytes::scan::find(input, from, to, LINE_END);
+        let end = from + find(&input[from..to], LINE_END);
         held = hold(line, held, &input[from..end]);
         if end < to {
             return ended(

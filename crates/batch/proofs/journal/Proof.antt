@@ -1,12 +1,12 @@
 use borrow.Author.Needs.{needs}
-use mathlib.Core.Path.{_≡_, refl, sym, ap, _∙_}
+use mathlib.Core.Path.{_≡_, refl}
 use Prim.Native.Nat.{_-_}
 use lib.ListN.{length}
 use Rattle.definition.specs.Program.{flat}
 use Rattle.definition.specs.Calls.{journal}
 use Rattle.oplist.proofs.Walks.{met-op, met-nothing}
 use Rattle.batch.specs.Forms.{Tested}
-use Rattle.batch.proofs.Walking.{tested-op, tested-on, Each, each-start, each-over, each-failed, each-on, entryOf, journal-turn, journal-over}
+use Rattle.batch.proofs.Walking.{tested-op, tested-on, Each, each-start, each-over, each-failed, each-on, entered, journal-turn, journal-over}
 use Rattle.batch.proofs.journal.Statement.{statement}
 use Rattle.batch.proofs.journal.Tie as tie
 
@@ -32,7 +32,7 @@ same-length : tie.Need-same-length Inv-loop μ-loop
 same-length c = search needs
 
 returns : tie.Need-returns Inv-loop μ-loop
-returns c = each-over (journal flat) entryOf journal-turn (c .before .before .before .loop .at) (c .before .before .before .loop .index) (c .before .before .before .loop .inv .2) (c .before .before .before .loop .inv .1 .walk) (met-nothing (c .before .before .op-at .ensures) (c .enum-told .given .1)) (journal-over _ (c .before .before .before .loop .inv .2 .fine))
+returns c = each-over (journal flat) entered journal-turn (c .before .before .before .loop .at) (c .before .before .before .loop .index) (c .before .before .before .loop .inv .2) (c .before .before .before .loop .inv .1 .walk) (met-nothing (c .before .before .op-at .ensures) (c .enum-told .given .1)) (journal-over _ (c .before .before .before .loop .inv .2 .fine))
 
 key-at-requires : tie.Need-key-at-requires Inv-loop μ-loop
 key-at-requires c κs = let m = met-op (c .before .before .before .before .op-at .ensures) (c .before .before .kind .given .1) in search needs
@@ -53,7 +53,7 @@ same-length-2 : tie.Need-same-length-2 Inv-loop μ-loop
 same-length-2 c = search needs
 
 returns-2 : tie.Need-returns-2 Inv-loop μ-loop
-returns-2 c = each-failed (journal flat) entryOf journal-turn (c .before .before .before .before .before .before .before .before .before .before .before .before .loop .at) (c .before .before .before .before .before .before .before .before .before .before .before .before .loop .index) (c .before .before .before .before .before .before .before .before .before .before .before .before .loop .inv .2) (c .before .before .before .before .before .before .before .before .before .before .before .before .loop .inv .1 .walk) (met-op (c .before .before .before .before .before .before .before .before .before .before .before .op-at .ensures) (c .before .before .before .before .before .before .before .before .before .kind .given .1)) (c .before .before .before .before .before .before .key-at .ensures) (c .before .before .before .before .before .value-at .ensures) (c .before .before .before .before .write-entry .ensures) (c .enum-told2 .given .1)
+returns-2 c = each-failed (journal flat) entered journal-turn (c .before .before .before .before .before .before .before .before .before .before .before .before .loop .at) (c .before .before .before .before .before .before .before .before .before .before .before .before .loop .index) (c .before .before .before .before .before .before .before .before .before .before .before .before .loop .inv .2) (c .before .before .before .before .before .before .before .before .before .before .before .before .loop .inv .1 .walk) (met-op (c .before .before .before .before .before .before .before .before .before .before .before .op-at .ensures) (c .before .before .before .before .before .before .before .before .before .kind .given .1)) (c .before .before .before .before .before .before .key-at .ensures) (c .before .before .before .before .before .value-at .ensures) (c .before .before .before .before .write-entry .ensures) (c .enum-told2 .given .1)
 
 add-index : tie.Need-add-index Inv-loop μ-loop
 add-index c = let h = tested-on (c .before .before .before .before .before .before .before .before .before .before .before .before .before .loop .inv .1) (met-op (c .before .before .before .before .before .before .before .before .before .before .before .before .op-at .ensures) (c .before .before .before .before .before .before .before .before .before .before .kind .given .1)) in search needs
@@ -62,7 +62,7 @@ loop-less : tie.Need-loop-less Inv-loop μ-loop
 loop-less c = let m = met-op (c .before .before .before .before .before .before .before .before .before .before .before .before .op-at .ensures) (c .before .before .before .before .before .before .before .before .before .before .kind .given .1) in search needs
 
 loop-again : tie.Need-loop-again Inv-loop μ-loop
-loop-again c = let m = met-op (c .before .before .before .before .before .before .before .before .before .before .before .before .op-at .ensures) (c .before .before .before .before .before .before .before .before .before .before .kind .given .1) in (cc, tested-on (c .before .before .before .before .before .before .before .before .before .before .before .before .before .loop .inv .1) m, each-on (journal flat) entryOf journal-turn (c .before .before .before .before .before .before .before .before .before .before .before .before .before .loop .at) (c .before .before .before .before .before .before .before .before .before .before .before .before .before .loop .index) (c .before .before .before .before .before .before .before .before .before .before .before .before .before .loop .inv .2) (c .before .before .before .before .before .before .before .before .before .before .before .before .before .loop .inv .1 .walk) m (c .before .before .before .before .before .before .before .key-at .ensures) (c .before .before .before .before .before .before .value-at .ensures) (c .before .before .before .before .before .write-entry .ensures) (c .before .written .given .1))
+loop-again c = let m = met-op (c .before .before .before .before .before .before .before .before .before .before .before .before .op-at .ensures) (c .before .before .before .before .before .before .before .before .before .before .kind .given .1) in (cc, tested-on (c .before .before .before .before .before .before .before .before .before .before .before .before .before .loop .inv .1) m, each-on (journal flat) entered journal-turn (c .before .before .before .before .before .before .before .before .before .before .before .before .before .loop .at) (c .before .before .before .before .before .before .before .before .before .before .before .before .before .loop .index) (c .before .before .before .before .before .before .before .before .before .before .before .before .before .loop .inv .2) (c .before .before .before .before .before .before .before .before .before .before .before .before .before .loop .inv .1 .walk) m (c .before .before .before .before .before .before .before .key-at .ensures) (c .before .before .before .before .before .before .value-at .ensures) (c .before .before .before .before .before .write-entry .ensures) (c .before .written .given .1))
 
 pub journal-spec : {M : Type 1} → statement M
 journal-spec =

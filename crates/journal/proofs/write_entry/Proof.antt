@@ -1,6 +1,6 @@
 use Prim.Native.Nat.{ℕ}
 use lib.ListN.{length-replicate}
-use Rattle.journal.proofs.Operations.{entry-made, entry-within, entry-length, entry-allowed, entry-stored}
+use Rattle.journal.proofs.Operations.{never-refused, entry-within, entry-length, entry-allowed, entry-stored}
 use borrow.Author.Needs.{needs}
 use Rattle.journal.proofs.write_entry.Statement.{statement}
 use Rattle.journal.proofs.write_entry.Tie as tie
@@ -18,7 +18,7 @@ enum-told : tie.Need-enum-told
 enum-told c = search needs
 
 returns : tie.Need-returns
-returns c = absurd (entry-made _ (c .before .before .before .before .before .before .before .before .before .pre .1) (c .before .before .before .encode-op .ensures) (length-replicate {A = ℕ} 354 0) (c .enum-told .given .1))
+returns c = absurd (never-refused _ (c .before .before .before .before .before .before .before .before .before .pre .1) (c .before .before .before .encode-op .ensures) (length-replicate {A = ℕ} 354 0) (c .enum-told .given .1))
 
 journal-key-requires : tie.Need-journal-key-requires
 journal-key-requires c κs = search needs

@@ -1,4 +1,4 @@
-use Rattle.probe.proofs.Laws.{unhexed-in, unhexed-length}
+use Rattle.text.proofs.Laws.{filled-in, filled-length}
 use borrow.Author.Needs.{needs}
 use Rattle.probe.proofs.remove_line.Statement.{statement}
 use Rattle.probe.proofs.remove_line.Tie as tie
@@ -25,10 +25,10 @@ returns : tie.Need-returns
 returns c = search needs
 
 array-share-prefix-key-bytes : tie.Need-array-share-prefix-key-bytes
-array-share-prefix-key-bytes c = unhexed-in (c .before .before .before .before .before .unhex .ensures) (c .before .before .key-len .given .1)
+array-share-prefix-key-bytes c = filled-in (c .before .before .before .before .before .unhex .ensures) (c .before .before .key-len .given .1)
 
 slice-aggregate-remove : tie.Need-slice-aggregate-remove
-slice-aggregate-remove c = unhexed-length (c .before .before .before .before .before .before .unhex .ensures) (c .before .before .before .key-len .given .1)
+slice-aggregate-remove c = filled-length (c .before .before .before .before .before .before .unhex .ensures) (c .before .before .before .key-len .given .1)
 
 remove-requires : tie.Need-remove-requires
 remove-requires c κs = search needs

@@ -1,5 +1,5 @@
 use native.Mathlib.Omega.{arith}
-use Rattle.probe.proofs.Laws.{unhexed-in, unhexed-length}
+use Rattle.text.proofs.Laws.{filled-in, filled-length}
 use borrow.Author.Needs.{needs}
 use Rattle.probe.proofs.set_script.Statement.{statement}
 use Rattle.probe.proofs.set_script.Tie as tie
@@ -35,13 +35,13 @@ returns-2 : tie.Need-returns-2
 returns-2 c = search needs
 
 array-share-prefix-bytes : tie.Need-array-share-prefix-bytes
-array-share-prefix-bytes c = unhexed-in (c .before .before .before .before .before .unhex .ensures) (c .before .before .count .given .1)
+array-share-prefix-bytes c = filled-in (c .before .before .before .before .before .before .unhex .ensures) (c .before .before .before .count .given .1)
 
-slice-aggregate-copy : tie.Need-slice-aggregate-copy
-slice-aggregate-copy c = unhexed-length (c .before .before .before .before .before .before .unhex .ensures) (c .before .before .before .count .given .1)
+slice-aggregate-copy-in : tie.Need-slice-aggregate-copy-in
+slice-aggregate-copy-in c = filled-length (c .before .before .before .before .before .before .before .unhex .ensures) (c .before .before .before .before .count .given .1)
 
-copy-requires : tie.Need-copy-requires
-copy-requires c κs = let e = unhexed-length (c .before .before .before .before .before .before .before .unhex .ensures) (c .before .before .before .before .count .given .1) in omega arith
+copy-in-requires : tie.Need-copy-in-requires
+copy-in-requires c κs = let e = filled-length (c .before .before .before .before .before .before .before .unhex .ensures) (c .before .before .before .before .count .given .1) in omega arith
 
 steps-requires : tie.Need-steps-requires
 steps-requires c κs = search needs
@@ -67,8 +67,8 @@ set-script-spec =
     same-length-2
     returns-2
     array-share-prefix-bytes
-    slice-aggregate-copy
-    copy-requires
+    slice-aggregate-copy-in
+    copy-in-requires
     steps-requires
     same-length-3
     returns-3)

@@ -13,17 +13,8 @@ sub-if2 c = search needs
 returns-2 : tie.Need-returns-2
 returns-2 c = holds-no-more _ _ _ (c .before .before .before .before .before .pre) (not-false _ (c .before .if1 .left)) (c .if2 .taken)
 
-sub-copy : tie.Need-sub-copy
-sub-copy c = search needs
-
-part-copy-start : tie.Need-part-copy-start
-part-copy-start c = search needs
-
-part-copy-end : tie.Need-part-copy-end
-part-copy-end c = search needs
-
-copy-requires : tie.Need-copy-requires
-copy-requires c κs = search needs
+write-at-requires : tie.Need-write-at-requires
+write-at-requires c κs = search needs
 
 add-t7 : tie.Need-add-t7
 add-t7 c = search needs
@@ -32,19 +23,8 @@ same-length : tie.Need-same-length
 same-length c = search needs
 
 returns-3 : tie.Need-returns-3
-returns-3 c = holds-more _ _ _ (c .before .before .before .before .before .before .before .before .before .pre) (not-false _ (c .before .before .before .before .before .if1 .left)) _ _ _ (c .before .before .before .before .if2 .left) (search needs) (c .before .before .copy .ensures .1)
+returns-3 c = holds-more _ _ _ (c .before .before .before .before .before .before .before .before .before .pre) (not-false _ (c .before .before .before .before .before .if1 .left)) (c .before .before .before .before .if2 .left) (search needs) (c .before .before .write-at .ensures)
 
 pub hold-spec : {M : Type 1} → statement M
 hold-spec =
-    tie.close
-    (tie.spec
-    returns
-    sub-if2
-    returns-2
-    sub-copy
-    part-copy-start
-    part-copy-end
-    copy-requires
-    add-t7
-    same-length
-    returns-3)
+    tie.close (tie.spec returns sub-if2 returns-2 write-at-requires add-t7 same-length returns-3)

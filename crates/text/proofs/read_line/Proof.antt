@@ -26,8 +26,20 @@ abbrev μ-loop : tie.MeasureT-loop
 loop-holds : tie.Need-loop-holds Inv-loop μ-loop
 loop-holds c = search needs
 
+sub-find : tie.Need-sub-find Inv-loop μ-loop
+sub-find c = search needs
+
+part-find-start : tie.Need-part-find-start Inv-loop μ-loop
+part-find-start c = search needs
+
+part-find-end : tie.Need-part-find-end Inv-loop μ-loop
+part-find-end c = search needs
+
 find-requires : tie.Need-find-requires Inv-loop μ-loop
 find-requires c κs = search needs
+
+add-end : tie.Need-add-end Inv-loop μ-loop
+add-end c = search needs
 
 sub-hold : tie.Need-sub-hold Inv-loop μ-loop
 sub-hold c = search needs
@@ -41,8 +53,8 @@ part-hold-end c = search needs
 hold-requires : tie.Need-hold-requires Inv-loop μ-loop
 hold-requires c κs = search needs
 
-add-t19 : tie.Need-add-t19 Inv-loop μ-loop
-add-t19 c = search needs
+add-t21 : tie.Need-add-t21 Inv-loop μ-loop
+add-t21 c = search needs
 
 ended-requires : tie.Need-ended-requires Inv-loop μ-loop
 ended-requires c κs = search needs
@@ -102,12 +114,16 @@ read-line-spec =
     Inv-loop
     μ-loop
     loop-holds
+    sub-find
+    part-find-start
+    part-find-end
     find-requires
+    add-end
     sub-hold
     part-hold-start
     part-hold-end
     hold-requires
-    add-t19
+    add-t21
     ended-requires
     same-length
     same-length-2

@@ -1,0 +1,148 @@
+//! The two sides with the same bytes: a call is done on both, and every field
+//! and byte is compared.
+
+use crate::call::Call;
+use crate::subject::Subject;
+use crate::tally::Tally;
+use model::{Reply, State};
+use oracle::{Outcome, ScriptedFlash, Session, PENDING};
+
+pub struct Bench {
+    subject: Box<dyn Subject>,
+    session: Session,
+    region: Vec<u8>,
+    script: Vec<u8>,
+    state: State,
+    pub tally: Tally,
+}
+
+impl Bench {
+    pub fn new(subject: Box<dyn Subject>) -> Self {
+        Bench {
+            subject,
+            session: Session::new(Vec::new()),
+            region: Vec::new(),
+            script: Vec::new(),
+            state: State::default(),
+            tally: Tally::default(),
+        }
+    }
+
+    /// Another medium, not mounted.
+    pub fn insert(&mut self, region: &[u8], script: &[u8]) {
+        self.session = Session::new(region.to_vec());
+        self.region = region.to_vec();
+        self.state = State { health: PENDING, at: 0, cut: 0 };
+        self.set_script(script, 0);
+    }
+
+    /// Another medium, and a store on it in any state at all.
+    pub fn stand(&mut self, region: &[u8], script: &[u8], state: State) {
+        self.region = region.to_vec();
+        self.script = script.to_vec();
+        self.state = state;
+        let flash = ScriptedFlash {
+            region: region.to_vec(),
+            script: script.to_vec(),
+            at: state.at,
+            cut: state.cut != 0,
+            calls: 0,
+        };
+        self.session = Session::with_health(state.health, flash);
+    }
+
+    pub fn set_script(&mut self, script: &[u8], at: u64) {
+        self.session.set_script(script, at);
+        self.script = script.to_vec();
+        self.state.at = at;
+    }
+
+    /// Change the bytes behind the store's back.
+    pub fn set_region(&mut self, region: &[u8]) {
+        self.session.with_flash(|flash| flash.region = region.to_vec());
+        self.region = region.to_vec();
+    }
+
+    pub fn region(&self) -> &[u8] {
+        &self.region
+    }
+
+    pub fn at(&self) -> u64 {
+        self.state.at
+    }
+
+    pub fn is_mounted(&self) -> bool {
+        self.session.is_mounted()
+    }
+
+    pub fn run(&mut self, call: &Call) -> Outcome {
+        let before = (self.region.clone(), self.state);
+        let mut wanted_out = call.output();
+        let mut out = call.output();
+        let wanted = call.on_original(&mut self.session, &mut wanted_out);
+        let reply = call.on_subject(
+            self.subject.as_ref(),
+            &mut self.region,
+            &self.script,
+            self.state,
+            &mut out,
+        );
+        let got = outcome(reply);
+        self.tally.count(call.kind(), before.1.health, &wanted);
+        let mut wrong = Vec::new();
+        if wanted != got {
+            wrong.push(format!("original {wanted:?}\nsubject  {got:?}"));
+        }
+        self.session.with_flash(|flash| {
+            wrong.extend(first_difference("region", &flash.region, &self.region));
+        });
+        wrong.extend(first_difference("output", &wanted_out, &out));
+        if !wrong.is_empty() {
+            let script = &self.script;
+            self.tally.difference(|| describe(call, &before.0, script, before.1, &wrong));
+            // Go on from the original, so that one slip is told once.
+            self.session.with_flash(|flash| self.region.clone_from(&flash.region));
+        }
+        self.state = State { health: wanted.health, at: wanted.at, cut: wanted.cut };
+        wanted
+    }
+}
+
+fn outcome(reply: Reply) -> Outcome {
+    Outcome {
+        answer: reply.answer,
+        number: reply.number,
+        v: reply.v,
+        count: reply.count,
+        length: reply.length,
+        health: reply.health,
+        at: reply.at,
+        cut: reply.cut,
+        calls: reply.calls,
+    }
+}
+
+fn first_difference(what: &str, wanted: &[u8], got: &[u8]) -> Option<String> {
+    if wanted == got {
+        return None;
+    }
+    let at = wanted.iter().zip(got).take_while(|(a, b)| a == b).count();
+    let part = |bytes: &[u8]| hex(&bytes[at..bytes.len().min(at + 32)]);
+    Some(format!("{what} differs from byte {at}: original {}, subject {}", part(wanted), part(got)))
+}
+
+fn describe(call: &Call, region: &[u8], script: &[u8], state: State, wrong: &[String]) -> String {
+    let used = region.iter().rposition(|byte| *byte != 0xff);
+    let used = &region[..used.map_or(0, |last| last + 1)];
+    format!(
+        "call {call:?}\nstate {state:?}\nscript {}\nregion of {} bytes: {}\n{}\n",
+        hex(script),
+        region.len(),
+        hex(used),
+        wrong.join("\n")
+    )
+}
+
+fn hex(bytes: &[u8]) -> String {
+    bytes.iter().map(|byte| format!("{byte:02x}")).collect()
+}

@@ -1,0 +1,75 @@
+//! One public call with its arguments, and doing it on either side.
+
+use crate::subject::{On, Subject};
+use model::{Reply, State};
+use oracle::{Outcome, Session};
+
+#[derive(Clone, Debug)]
+pub enum Call {
+    Mount { start: u32, at: u64 },
+    Get { key: Vec<u8>, out: usize },
+    Contains { key: Vec<u8> },
+    Put { key: Vec<u8>, value: Vec<u8> },
+    Delete { key: Vec<u8> },
+    Batch { list: Vec<u8> },
+    Scan { prefix: Vec<u8>, most: u64, out: usize },
+}
+
+impl Call {
+    pub const KINDS: [&'static str; 7] =
+        ["mount", "get", "contains", "put", "delete", "batch", "scan"];
+
+    /// The place of this call's kind in `KINDS`.
+    pub fn kind(&self) -> usize {
+        match self {
+            Call::Mount { .. } => 0,
+            Call::Get { .. } => 1,
+            Call::Contains { .. } => 2,
+            Call::Put { .. } => 3,
+            Call::Delete { .. } => 4,
+            Call::Batch { .. } => 5,
+            Call::Scan { .. } => 6,
+        }
+    }
+
+    /// An output filled with a pattern, so that a byte written where none
+    /// should be shows.
+    pub fn output(&self) -> Vec<u8> {
+        match self {
+            Call::Get { out, .. } | Call::Scan { out, .. } => vec![0xa5; *out],
+            _ => Vec::new(),
+        }
+    }
+
+    pub fn on_original(&self, session: &mut Session, out: &mut [u8]) -> Outcome {
+        match self {
+            Call::Mount { start, at } => session.mount(*start, *at),
+            Call::Get { key, .. } => session.get(key, out),
+            Call::Contains { key } => session.contains(key),
+            Call::Put { key, value } => session.put(key, value),
+            Call::Delete { key } => session.delete(key),
+            Call::Batch { list } => session.batch(list),
+            Call::Scan { prefix, most, .. } => session.scan(prefix, *most, out),
+        }
+    }
+
+    pub fn on_subject(
+        &self,
+        subject: &dyn Subject,
+        region: &mut [u8],
+        script: &[u8],
+        state: State,
+        out: &mut [u8],
+    ) -> Reply {
+        let on = On { region, script, state };
+        match self {
+            Call::Mount { start, at } => subject.mount(on.region, script, *start, *at),
+            Call::Get { key, .. } => subject.get(on, key, out),
+            Call::Contains { key } => subject.contains(on, key),
+            Call::Put { key, value } => subject.put(on, key, value),
+            Call::Delete { key } => subject.delete(on, key),
+            Call::Batch { list } => subject.batch(on, list),
+            Call::Scan { prefix, most, .. } => subject.scan(on, prefix, *most, out),
+        }
+    }
+}

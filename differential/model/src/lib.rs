@@ -1,0 +1,80 @@
+//! Document 01 as plain functions: bytes, script and state in, a reply out.
+//! Nothing here looks at the Rust original or at its stand-in engine.
+
+mod batch;
+mod calls;
+mod codec;
+mod items;
+mod recovery;
+mod scan;
+mod world;
+
+pub use batch::batch;
+pub use calls::{contains, delete, get, mount, put};
+pub use scan::scan;
+
+/// What a caller keeps between calls. Health: 0 clean, 1 debris, 2 pending.
+#[derive(Clone, Copy, Debug, Default, PartialEq, Eq)]
+pub struct State {
+    pub health: u64,
+    pub at: u64,
+    pub cut: u64,
+}
+
+/// Everything a call says but the bytes it leaves in region and output.
+#[derive(Clone, Copy, Debug, Default, PartialEq, Eq)]
+pub struct Reply {
+    pub answer: u64,
+    pub number: u64,
+    pub v: [u64; 3],
+    pub count: u64,
+    pub length: u64,
+    pub health: u64,
+    pub at: u64,
+    pub cut: u64,
+    pub calls: u64,
+}
+
+/// A refusal: document 01's number and its values.
+#[derive(Clone, Copy, Debug, PartialEq, Eq)]
+pub(crate) struct No(pub u64, pub [u64; 3]);
+
+impl No {
+    pub const RESERVED: No = No(3, [0; 3]);
+    pub const FULL: No = No(6, [0; 3]);
+    pub const CORRUPTED: No = No(7, [0; 3]);
+    pub const COMMITTED: No = No(15, [0; 3]);
+    pub const UNCERTAIN: No = No(16, [0; 3]);
+    pub const BAD_LIST: No = No(17, [0; 3]);
+
+    pub fn key_too_long(got: usize) -> No {
+        No(2, [0, got as u64, 96])
+    }
+
+    pub fn value_too_long(got: usize) -> No {
+        No(2, [1, got as u64, 256])
+    }
+}
+
+/// An answer that is no refusal.
+#[derive(Clone, Copy, Debug, Default)]
+pub(crate) struct Yes {
+    pub answer: u64,
+    pub count: u64,
+    pub length: u64,
+}
+
+impl Yes {
+    pub fn plain(answer: u64) -> Yes {
+        Yes { answer, count: 0, length: 0 }
+    }
+}
+
+pub(crate) const CLEAN: u64 = 0;
+pub(crate) const DEBRIS: u64 = 1;
+pub(crate) const PENDING: u64 = 2;
+
+/// The first byte of a bookkeeping key is 0.
+pub(crate) fn reserved(key: &[u8]) -> bool {
+    key.first() == Some(&0)
+}

@@ -1,0 +1,14 @@
+//! Document 01's public calls, answered by the Rust original. What document 01
+//! adds to the original stands here; all else is the original's own doing.
+
+mod calls;
+mod list;
+mod number;
+mod outcome;
+mod scan;
+mod session;
+
+pub use outcome::{Outcome, CLEAN, DEBRIS, PENDING};
+pub use sequential_storage::flash::ScriptedFlash;
+pub use sequential_storage::image;
+pub use session::{erased, Session};
