@@ -1,5 +1,5 @@
 //! Runs the same calls on the Rust original and on a subject, and says where
-//! they differ: `compare mirror|rattle CALLS SEED [long]`.
+//! they differ: `compare mirror|rattle CALLS SEED [short|long]`.
 
 #[cfg(feature = "rattle")]
 mod archive;
@@ -16,6 +16,7 @@ mod sweeps;
 mod tally;
 
 use bench::Bench;
+use edges::Extent;
 use std::process::ExitCode;
 use subject::{Mirror, Subject};
 
@@ -24,15 +25,19 @@ fn main() -> ExitCode {
     let numbers = args.get(1).zip(args.get(2));
     let numbers = numbers.and_then(|(calls, seed)| Some((calls.parse().ok()?, seed.parse().ok()?)));
     let (Some(name), Some((calls, seed))) = (args.first(), numbers) else {
-        eprintln!("compare mirror|rattle CALLS SEED [long]");
+        eprintln!("compare mirror|rattle CALLS SEED [short|long]");
         return ExitCode::from(2);
     };
     let Some(subject) = subject(name) else {
         eprintln!("no subject {name}: it is mirror, or rattle in a build with that feature");
         return ExitCode::from(2);
     };
-    let long = args.get(3).is_some_and(|word| word == "long");
-    compare(subject, calls, seed, long)
+    let extent = match args.get(3).map(String::as_str) {
+        Some("short") => Extent::Short,
+        Some("long") => Extent::Long,
+        _ => Extent::Usual,
+    };
+    compare(subject, calls, seed, extent)
 }
 
 fn subject(name: &str) -> Option<Box<dyn Subject>> {
@@ -45,9 +50,9 @@ fn subject(name: &str) -> Option<Box<dyn Subject>> {
 }
 
 /// The edges first, always whole; then random calls until there are `calls`.
-fn compare(subject: Box<dyn Subject>, calls: u64, seed: u64, long: bool) -> ExitCode {
+fn compare(subject: Box<dyn Subject>, calls: u64, seed: u64, extent: Extent) -> ExitCode {
     let mut bench = Bench::new(subject);
-    edges::all(&mut bench, long);
+    edges::all(&mut bench, extent);
     sweeps::all(&mut bench);
     let mut draw = draw::Draw::new(seed);
     while bench.tally.calls() < calls {
