@@ -1,19 +1,20 @@
 -- What `remove` and `store` make of a good image: document 01's `removeIn` and `storeIn`, from the bytes that they write.
 use mathlib.Core.Path.{_≡_, sym, ap, ap₂, _∙_}
-use mathlib.Core.Bool.{true, false}
+use mathlib.Core.Bool.{Bool, true, false, not}
 use mathlib.Core.List.{List, [], _∷_, _++_, append-assoc, append-nil}
-use Prim.Native.Nat.{ℕ, zero, suc, _+_, _-_, _≤_, _<_}
+use Prim.Native.Nat.{ℕ, zero, suc, _+_, _-_, _≤_}
 use native.Mathlib.Nat.{zero-add}
 use native.Mathlib.Omega.{arith}
-use borrow.Author.Tests.{le-leb, lt-leb}
+use lib.Dec.{leb}
+use borrow.Author.Tests.{not-true, not-false}
 use lib.ListN.{length, drop, replicate, replicate-append-replicate}
 use lib.Seq.{take-append-seam, drop-append-seam, drop-append-add}
 use Rattle.definition.specs.Tools.{Bytes}
 use Rattle.definition.specs.Region.{Item, removed, stored, span, spanOf, recordOf, allowed, good, items, used, records, render, room, removeIn, roomIn, storeIn}
 use Rattle.definition.proofs.Choices.{pick-yes}
 use Rattle.definition.proofs.Records.{record-length}
-use Rattle.definition.proofs.Items.{absent, used-append}
-use Rattle.definition.proofs.Image.{records-length, records-append, used-fits, good-is-rendered, remove-good, store-good, store-room, store-full}
+use Rattle.definition.proofs.Items.{absent, used-append, used-stored}
+use Rattle.definition.proofs.Image.{records-length, records-append, used-fits, good-is-rendered, room-parts, remove-items, remove-good, remove-length, store-good, store-room, store-full}
 use Rattle.region.specs.Places.{placeOf}
 use Rattle.region.specs.Changes.{written, without, Now, Stores, storedBy}
 use Rattle.region.specs.declared.Found.the-variants as F
@@ -92,21 +93,43 @@ written-item len a i =
     (ap (λ (x : ℕ). drop x (replicate m 255)) (record-length i) ∙ drop-replicate (spanOf i) m 255 ∙ ap (λ (x : ℕ). replicate x 255) e)
     ∙ sym (ap (λ (l : Bytes). l ++ replicate (len - used (a ++ (i ∷ []))) 255) (records-append a (i ∷ [])) ∙ simp (append-nil, append-assoc))
 
-module _ (s : Bytes) (i : Item) (g : good s ≡ true) (ok : allowed (length (i .key)) (length (i .value)) ≡ true)
-    {end need : ℕ} (ee : end ≡ used (removed (i .key) (items s))) (en : need ≡ spanOf i) where
-  pub stores : {b c : Bytes} → Now b (removeIn (i .key) s) → end + need ≤ length s → c ≡ written b end (recordOf i) → Stores i s c Done
-  unfolding roomIn room storedBy removeIn stored
-  stores {b} {c} h l f =
-      let fits : used (removed (i .key) (items s)) + spanOf i ≤ length s = omega arith in
-      let y : roomIn i s ≡ true = pick-yes _ _ ok ∙ le-leb _ _ fits in
-      let eq : c ≡ storeIn i s =
-      f ∙ ap₂ (λ (x : Bytes) (n : ℕ). written x n (recordOf i)) (h .is) ee
-      ∙ written-item (length s) (removed (i .key) (items s)) i ∙ sym (store-room i s y) in
-      record { answer = sym (ap storedBy y); now = record { fine = ap good eq ∙ store-good s g i; is = eq } }
+-- the room rule, from the walks that `has_room` makes: the used bytes, and those of the old record
+pub room-is : (len : ℕ) (i : Item) (is : List Item) {all : ℕ} (old : ℕ) {new : ℕ} → all ≡ used is → used is ≡ used (removed (i .key) is) + old → new ≡ spanOf i
+    → leb (all - old + new) len ≡ room len i is
+unfolding room
+room-is len i is {all} old {new} ea eo en =
+    let e : all - old + new ≡ used (removed (i .key) is) + spanOf i = omega arith in
+    ap (λ (n : ℕ). leb n len) e
 
-  pub stores-nothing : length s < end + need → Stores i s s Full
-  unfolding roomIn room storedBy
-  stores-nothing l =
-      let over : length s < used (removed (i .key) (items s)) + spanOf i = omega arith in
-      let n : roomIn i s ≡ false = pick-yes _ _ ok ∙ lt-leb _ _ over in
+module _ (s : Bytes) (i : Item) (g : good s ≡ true) (ok : allowed (length (i .key)) (length (i .value)) ≡ true)
+    {y : Bool} (ey : y ≡ room (length s) i (items s)) where
+  said : y ≡ roomIn i s
+  unfolding roomIn
+  said = ey ∙ sym (pick-yes _ _ ok)
+
+  pub stores-nothing : not y ≡ true → Stores i s s Full
+  unfolding storedBy
+  stores-nothing f =
+      let n : roomIn i s ≡ false = sym said ∙ not-true y f in
       record { answer = sym (ap storedBy n); now = record { fine = g; is = sym (store-full i s n) } }
+
+  module _ (t : not y ≡ false) {b : Bytes} (h : Now b (removeIn (i .key) s)) {end : ℕ} (ee : end ≡ used (items b)) where
+    roomy : roomIn i s ≡ true
+    roomy = sym said ∙ not-false y t
+
+    end-is : end ≡ used (removed (i .key) (items s))
+    end-is = ee ∙ ap used (ap items (h .is) ∙ remove-items s g (i .key))
+
+    pub fits : end + spanOf i ≤ length b
+    fits =
+        let l : length b ≡ length s = ap length (h .is) ∙ remove-length (i .key) s in
+        let e = end-is in
+        omega (arith, used-stored i (items s), room-parts i s roomy .1)
+
+    pub stores : {c : Bytes} → c ≡ written b end (recordOf i) → Stores i s c Done
+    unfolding storedBy removeIn stored
+    stores {c} f =
+        let eq : c ≡ storeIn i s =
+        f ∙ ap₂ (λ (x : Bytes) (n : ℕ). written x n (recordOf i)) (h .is) end-is
+        ∙ written-item (length s) (removed (i .key) (items s)) i ∙ sym (store-room i s roomy) in
+        record { answer = sym (ap storedBy roomy); now = record { fine = ap good eq ∙ store-good s g i; is = eq } }

@@ -1,24 +1,20 @@
 -- A walk over the records, one a turn: what a visit of a place says, and what it makes of the items that are left.
-use mathlib.Core.Path.{_≡_, refl, sym, ap, ap₂, _∙_}
-use mathlib.Core.Logic.{⊎-elim}
+use mathlib.Core.Path.{_≡_, refl, sym, ap, ap₂, subst, _∙_}
 use mathlib.Core.Bool.{Bool, true, false}
 use mathlib.Core.List.{List, [], _∷_, _++_, append-assoc, append-nil}
 use Prim.Native.Nat.{ℕ, _+_}
 use native.Mathlib.Nat.{add-assoc, add-zero}
 use native.Mathlib.Omega.{arith}
-use types.Run.{OneOf}
-use denote.Enum.Declared.{tagOf}
 use lib.ListN.{length, take, drop, length-take, length-drop}
 use lib.Seq.{drop-drop}
 use Rattle.definition.specs.Tools.{Bytes, pick, eqs}
-use Rattle.definition.specs.Region.{Item, item, hasKey, headSize, span, spanOf, headOf, itemAt, items, whole, used}
+use Rattle.definition.specs.Region.{Item, item, hasKey, headSize, span, spanOf, blank, headOf, itemAt, items, whole, used}
 use Rattle.definition.specs.declared.Head.{Head}
 use Rattle.definition.specs.declared.Head.the-variants.{Record, End, Bad}
-use Rattle.definition.proofs.Head.{the-type}
-use Rattle.definition.proofs.Choices.{pick-yes, pick-no}
-use Rattle.definition.proofs.Records.{span-holds, bounded, record-sound}
+use Rattle.definition.proofs.Choices.{pick-yes, pick-no, bool}
+use Rattle.definition.proofs.Records.{span-holds, bounded, record-sound, head-end, end-blank}
 use Rattle.definition.proofs.Items.{used-append}
-use Rattle.definition.proofs.Image.{items-record, items-end, items-bad, whole-record}
+use Rattle.definition.proofs.Image.{items-record, whole-record, whole-end, whole-bad}
 use Rattle.region.specs.Places.{keyAt, valueAt, Met, Walk, placeOf}
 use Rattle.region.specs.declared.Found.the-variants as F
 
@@ -49,12 +45,6 @@ module _ (s : Bytes) (at k v : ℕ) where
         short = b .short;
         small = b .small;
       }
-
--- no record: the tag that the code tested is 1 for `End`, 2 for `Bad`
-pub no-record : (s : Bytes) (h : Head) → h ≡ headOf s → OneOf (1 ∷ 2 ∷ []) (tagOf the-type h) → items s ≡ []
-no-record s End e o = items-end s (sym e)
-no-record s Bad e o = items-bad s (sym e)
-no-record s (Record k v) e o = absurd (⊎-elim (λ (w : _≡_ {A = ℕ} 0 1). omega arith) (λ (w : _≡_ {A = ℕ} 0 2). omega arith) o)
 
 -- ---- the record that was met
 
@@ -103,6 +93,24 @@ module _ {s : Bytes} {at k v n : ℕ} (m : Met s at k v n) where
 pub place-stop : (s key : Bytes) (at : ℕ) → items (drop at s) ≡ [] → placeOf at key (items (drop at s)) ≡ F.Nothing
 unfolding placeOf
 place-stop s key at e = ap (placeOf at key) e
+
+bad-or-end : End ≡ Bad → ⊥
+bad-or-end p = subst isEnd p tt
+  where
+    isEnd : Head → Type 0
+    isEnd End = Unit {0}
+    isEnd Bad = ⊥
+    isEnd (Record k v) = ⊥
+
+-- where no item is left, the rest is whole exactly if only 0xFF stands there
+pub whole-stop : (s : Bytes) → items s ≡ [] → whole s ≡ blank s
+whole-stop s e =
+    at (headOf s) refl
+  where
+    at : (h : Head) → headOf s ≡ h → whole s ≡ blank s
+    at End eh = whole-end s eh ∙ sym (end-blank s eh)
+    at Bad eh = whole-bad s eh ∙ sym (bool (blank s) (λ y. absurd (bad-or-end (sym (head-end s y) ∙ eh))) (λ n. n))
+    at (Record k v) eh = let l = ap length (sym (items-record s k v eh) ∙ e) in absurd (omega (arith, l))
 
 pub used-stop : (s : Bytes) (at : ℕ) → items (drop at s) ≡ [] → at + used (items (drop at s)) ≡ at
 unfolding used

@@ -1,6 +1,5 @@
 // The region's bytes: the image test, the records by place and by key, and the two item calls that write. Document 01 defines them in "The
 // region and its items"; the contracts say that each function is that definition. Nothing above this crate knows a byte of a record.
-use definition::Head;
 ghost use mathlib.Core.Path.{_≡_};
 ghost use mathlib.Core.Bool.{true};
 ghost use mathlib.Core.List.{_++_};
@@ -9,7 +8,7 @@ ghost use lib.ListN.{length, take, drop, replicate};
 ghost use lib.Seq.{paste};
 ghost use Rattle.definition.specs.Tools.{eqs};
 ghost use Rattle.definition.specs.Region;
-ghost use Rattle.definition.specs.Region.{item, distinct, removed, le16At, spanOf, recordOf, allowed, blank, headOf, items, whole, good, removeIn};
+ghost use Rattle.definition.specs.Region.{item, distinct, removed, le16At, spanOf, recordOf, allowed, blank, items, whole, good, room, removeIn};
 ghost use Rattle.definition.specs.Codec.{laid};
 ghost use Rattle.definition.specs.Recovery.{isJournal};
 ghost use Rattle.region.specs.Places.{Visit, placeOf, keyAt, valueAt, Fetched, FirstJournal};
@@ -154,39 +153,39 @@ fn is_blank_from(region: &[u8], at: usize) -> bool
     true
 }
 
-// What stands at a place. A record is told by its bytes: they are compared with those that its lengths give.
-pub fn head_at(region: &[u8], at: usize) -> Head
-    ensures { λ r. ⌜ r ≡ headOf (drop at (now (region .entry))) ⌝ }
+// How many bytes stand from a place on.
+fn left_from(region: &[u8], at: usize) -> usize
+    ensures { λ r. ⌜ r ≡ length (now (region .entry)) - at ⌝ }
 {
-    if is_blank_from(region, at) {
-        return Head::End;
+    if at < region.len() {
+        region.len() - at
+    } else {
+        0
     }
-    let left = region.len() - at;
+}
+
+// A walk over the items starts at 0, and goes from each place to the next until there is nothing. A record is told by its bytes: they are
+// compared with those that its lengths give. What else may stand there is no matter here, so that a walk's end costs no look at the tail.
+pub fn next_item(region: &[u8], at: usize) -> Next
+    ensures { λ r. ⌜ Visit (now (region .entry)) at r ⌝ }
+{
+    let left = left_from(region, at);
     if left < HEAD_SIZE {
-        return Head::Bad;
+        return Next::Nothing;
     }
     let klen = wide(region[at + 8]);
     let vlen = le16_at(region, at + 6);
     if !is_allowed(klen, vlen) {
-        return Head::Bad;
+        return Next::Nothing;
     }
     if !agrees(region, at, ITEM_KIND, klen, vlen) {
-        return Head::Bad;
-    }
-    if left < span(klen, vlen) {
-        return Head::Bad;
-    }
-    Head::Record(klen, vlen)
-}
-
-// A walk over the items starts at 0, and goes from each place to the next until there is nothing.
-pub fn next_item(region: &[u8], at: usize) -> Next
-    ensures { λ r. ⌜ Visit (now (region .entry)) at r ⌝ }
-{
-    let Head::Record(klen, vlen) = head_at(region, at) else {
         return Next::Nothing;
-    };
-    let next = at + span(klen, vlen);
+    }
+    let taken = span(klen, vlen);
+    if left < taken {
+        return Next::Nothing;
+    }
+    let next = at + taken;
     Next::Item(klen, vlen, next)
 }
 
@@ -259,17 +258,10 @@ fn is_whole(region: &[u8]) -> bool
 {
     let mut at: usize = 0;
     loop {
-        match head_at(region, at) {
-            Head::Record(klen, vlen) => {
-                at = at + span(klen, vlen);
-            }
-            Head::End => {
-                return true;
-            }
-            Head::Bad => {
-                return false;
-            }
-        }
+        let Next::Item(_, _, next) = next_item(region, at) else {
+            return is_blank_from(region, at);
+        };
+        at = next;
     }
 }
 
@@ -458,18 +450,26 @@ fn old_span(region: &[u8], key: &[u8]) -> usize
     span(klen, vlen)
 }
 
+// Whether there is room for a record: "Full exactly if used bytes, less the old record, plus the new one exceed L."
+fn has_room(region: &[u8], key: &[u8], value: &[u8]) -> bool
+    requires { ⌜ allowed (length (now key)) (length (now value)) ≡ true ⌝ }
+    ensures { λ r. ⌜ r ≡ room (length (now (region .entry))) (item (now (key .entry)) (now (value .entry))) (items (now (region .entry))) ⌝ }
+{
+    let end = used(region) - old_span(region, key);
+    end + span(key.len(), value.len()) <= region.len()
+}
+
 // Drops the record with the key, closes the gap and appends the new one, if there is room for it then.
 pub fn store(region: &mut [u8], key: &[u8], value: &[u8]) -> Stored
     requires { ⌜ good (now region) ≡ true ⌝ }
     requires { ⌜ allowed (length (now key)) (length (now value)) ≡ true ⌝ }
     ensures { λ r. ⌜ Stores (item (now (key .entry)) (now (value .entry))) (now (region .entry)) (now (region .exit)) r ⌝ }
 {
-    let end = used(region) - old_span(region, key);
-    let need = span(key.len(), value.len());
-    if region.len() < end + need {
+    if !has_room(region, key, value) {
         return Stored::Full;
     }
     remove(region, key);
+    let end = used(region);
     put_record(region, end, key, value);
     Stored::Done
 }

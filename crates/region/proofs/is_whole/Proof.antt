@@ -1,11 +1,11 @@
 use borrow.Author.Needs.{needs}
-use mathlib.Core.Path.{_≡_, refl, sym, ap, _∙_}
-use Prim.Native.Nat.{ℕ, _+_, _-_}
+use mathlib.Core.Path.{_≡_, refl, sym, _∙_}
+use Prim.Native.Nat.{_-_}
 use lib.ListN.{length, drop}
-use Rattle.definition.specs.Region.{span, whole}
-use Rattle.definition.proofs.Image.{whole-end, whole-bad}
+use Rattle.definition.specs.Region.{whole}
 use Rattle.region.specs.Places.{Met}
-use Rattle.region.proofs.Walks.{met, met-whole}
+use Rattle.region.proofs.Answers.{met-item, met-nothing}
+use Rattle.region.proofs.Walks.{met-whole, whole-stop}
 use Rattle.region.proofs.is_whole.Statement.{statement}
 use Rattle.region.proofs.is_whole.Tie as tie
 
@@ -19,44 +19,36 @@ abbrev μ-loop : tie.MeasureT-loop
 abbrev at : tie.After-known-told Inv-loop μ-loop → tie.At-loop Inv-loop μ-loop
 at c = c .before .before .before .before
 
-found : (c : tie.After-known-told Inv-loop μ-loop) {n : ℕ} → n ≡ at c .loop .at + span (c .before .klen .given .0 .0) (c .before .klen .given .0 .1 .0)
-    → Met (at c .before .before .args .region .now) (at c .loop .at) (c .before .klen .given .0 .0) (c .before .klen .given .0 .1 .0) n
-found c e = met _ _ _ _ (sym (c .before .before .before .head-at .ensures) ∙ c .before .klen .given .1) e
+found : (c : tie.After-known-told Inv-loop μ-loop)
+    → Met (at c .before .before .args .region .now) (at c .loop .at) (c .before .next .given .0 .0) (c .before .next .given .0 .1 .0) (c .before .next .given .0 .1 .1 .0)
+found c = met-item (c .before .before .before .next-item .ensures) (c .before .next .given .1)
 
 loop-holds : tie.Need-loop-holds Inv-loop μ-loop
 loop-holds c = refl
 
-head-at-requires : tie.Need-head-at-requires Inv-loop μ-loop
-head-at-requires c κs = search needs
+next-item-requires : tie.Need-next-item-requires Inv-loop μ-loop
+next-item-requires c κs = search needs
 
-enum-known-klen : tie.Need-enum-known-klen Inv-loop μ-loop
-enum-known-klen c = search needs
-
-span-requires : tie.Need-span-requires Inv-loop μ-loop
-span-requires c κs = let m = found c refl in search needs
-
-add-at : tie.Need-add-at Inv-loop μ-loop
-add-at c = let m = found (c .before) refl in search needs
-
-loop-less : tie.Need-loop-less Inv-loop μ-loop
-loop-less c = let m = found (c .before) refl in search needs
-
-loop-again : tie.Need-loop-again Inv-loop μ-loop
-loop-again c =
-    let k = c .before in
-    at k .loop .inv ∙ met-whole (found k (ap (λ (n : ℕ). at k .loop .at + n) (c .span .ensures)))
+enum-known-next : tie.Need-enum-known-next Inv-loop μ-loop
+enum-known-next c = search needs
 
 enum-told : tie.Need-enum-told Inv-loop μ-loop
 enum-told c = search needs
 
+is-blank-from-requires : tie.Need-is-blank-from-requires Inv-loop μ-loop
+is-blank-from-requires c κs = search needs
+
 returns : tie.Need-returns Inv-loop μ-loop
-returns c = let k = c .before .before in sym (k .before .loop .inv ∙ whole-end _ (sym (k .head-at .ensures) ∙ c .enum-told .given .1))
+returns c =
+    let t = c .before in
+    let k = t .before .before in
+    c .is-blank-from .ensures ∙ sym (k .before .loop .inv ∙ whole-stop _ (met-nothing (k .next-item .ensures) (t .enum-told .given .1)))
 
-enum-told-2 : tie.Need-enum-told-2 Inv-loop μ-loop
-enum-told-2 c = search needs
+loop-less : tie.Need-loop-less Inv-loop μ-loop
+loop-less c = let m = found c in search needs
 
-returns-2 : tie.Need-returns-2 Inv-loop μ-loop
-returns-2 c = let k = c .before .before in sym (k .before .loop .inv ∙ whole-bad _ (sym (k .head-at .ensures) ∙ c .enum-told2 .given .1))
+loop-again : tie.Need-loop-again Inv-loop μ-loop
+loop-again c = at c .loop .inv ∙ met-whole (found c)
 
 pub is-whole-spec : {M : Type 1} → statement M
 is-whole-spec =
@@ -65,13 +57,10 @@ is-whole-spec =
     Inv-loop
     μ-loop
     loop-holds
-    head-at-requires
-    enum-known-klen
-    span-requires
-    add-at
-    loop-less
-    loop-again
+    next-item-requires
+    enum-known-next
     enum-told
+    is-blank-from-requires
     returns
-    enum-told-2
-    returns-2)
+    loop-less
+    loop-again)
