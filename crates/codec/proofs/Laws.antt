@@ -1,21 +1,21 @@
 -- What each return of the codecs' functions says, over plain variables.
 use mathlib.Core.Path.{_≡_, refl, sym, ap, ap₂, _∙_, subst}
 use mathlib.Core.Bool.{Bool, true, false}
-use mathlib.Core.List.{List, [], _∷_, _++_}
+use mathlib.Core.List.{[], _∷_, _++_}
 use mathlib.Core.Option.{Option, none, some}
-use Prim.Native.Nat.{ℕ, suc, _+_, _*_, _-_, _<_, _≤_}
+use Prim.Native.Nat.{ℕ, _+_, _-_, _<_, _≤_}
 use native.Mathlib.Omega.{arith}
 use native.Mathlib.Nat.{le-of-lt, zero-add}
 use native.Mathlib.Numerals.{add-one}
 use lib.ListN.{length, getD, take, drop, set, replicate, length-append, length-drop, length-set, length-replicate, getD-replicate, drop-of-length-le}
 use lib.Seq.{drop-cons, take-all, length-take-le, ext-getD, getD-drop}
 use lib.Dec.{eqb, ltb}
-use borrow.Author.Tests.{ne-eqb, eq-eqb, lt-ltb, le-ltb, lt-leb, le-leb}
-use Rattle.definition.specs.Tools.{Bytes, pick, opt}
-use Rattle.definition.specs.Codec.{Op, Put, Delete, opKey, opValue, opByte, reserved, longKey, longValue, keyTooLong, valueTooLong, keyRead, keyIn, keyLength, keyWrite, keyBytes, order, be16At, markerOf, entryOf, entryValue, keyPart, valuePart, opFault, encode, encodeInto, laid, laidIf}
+use borrow.Author.Tests.{ne-eqb, eq-eqb, lt-ltb, le-ltb}
+use Rattle.definition.specs.Tools.{Bytes, pick}
+use Rattle.definition.specs.Codec.{Put, Delete, opKey, opValue, opByte, reserved, longKey, longValue, keyTooLong, valueTooLong, keyRead, keyIn, keyLength, keyWrite, keyBytes, order, be16At, markerOf, entryOf, entryValue, keyPart, valuePart, opFault, encode, encodeInto, laid, laidIf}
 use Rattle.definition.proofs.Choices.{picked, passed, pick-yes, pick-no, opt-none, opt-some}
 use Rattle.definition.specs.declared.Fault.{Fault}
-use Rattle.definition.specs.declared.Fault.the-variants.{Serialization, CapacityExceeded, ReservedKey}
+use Rattle.definition.specs.declared.Fault.the-variants.{Serialization, ReservedKey}
 use Rattle.definition.specs.declared.CapacityKind.the-variants as C
 use Rattle.definition.specs.declared.SerializationKind.the-variants.{BufferTooSmall, InvalidData}
 use Rattle.definition.specs.declared.CodecAnswer.{CodecAnswer}
@@ -28,8 +28,9 @@ use Rattle.codec.specs.declared.Checked.{Checked}
 use Rattle.codec.specs.declared.Checked.the-variants as K
 use Rattle.codec.specs.declared.OpKind.{OpKind}
 use Rattle.codec.specs.declared.OpKind.the-variants as P
-use Rattle.codec.specs.Forms.{written, padded, KeyInside, KeyLens, KeyReads, MarkerReads, Inside, EntryReads, checkedOf, Bounded, Checks, entryBytes, entryAnswer, EntryWrites, opAs, Encodes}
-use Rattle.codec.proofs.Copy.{written-then, set-written}
+use Rattle.codec.specs.Forms.{padded, KeyInside, KeyLens, KeyReads, MarkerReads, Inside, EntryReads, checkedOf, Bounded, Checks, entryBytes, entryAnswer, EntryWrites, opAs, Encodes}
+use Rattle.slices.specs.Written.{written}
+use Rattle.slices.proofs.Copying.{written-then, set-written, laid-written}
 
 -- ---- keys
 
@@ -316,15 +317,11 @@ key-whole s bytes {r} {n} h q e =
     let b = key-inside s h q in
     record { is = sym q ∙ h .is; key = e; long = sym (length-take-le (n - 1) (drop 1 s) (simp length-drop (omega arith))) }
 
-pub laid-written : (e out : Bytes) → written out 0 e ≡ laid e out
-unfolding written laid
-laid-written e out = ap (λ n. e ++ drop n out) (zero-add (length e))
-
 pub key-laid : (k out : Bytes) → length k + 1 ≤ length out → written (set out 0 (length k)) 1 k ≡ laid (keyBytes k) out
 unfolding keyBytes
 key-laid k out h =
     ap (λ x. written x 1 k) (set-written out 0 (length k) (omega arith))
-    ∙ written-then out 0 (length k ∷ []) k (omega arith) ∙ laid-written (length k ∷ k) out
+    ∙ written-then out 0 1 (length k ∷ []) k refl (omega arith) ∙ laid-written (length k ∷ k) out
 
 pub entry-laid : (op : ℕ) (k v out r1 r2 : Bytes) → 2 + length k + length v ≤ length out
     → r1 ≡ written (set (set out 0 op) 1 (length k)) 2 k → r2 ≡ written r1 (2 + length k) v → r2 ≡ laid (entryBytes op k v) out
@@ -332,10 +329,10 @@ unfolding entryBytes
 entry-laid op k v out r1 r2 h e1 e2 =
     let a : set (set out 0 op) 1 (length k) ≡ written out 0 (op ∷ length k ∷ []) =
     set-written (set out 0 op) 1 (length k) (simp length-set (omega arith)) ∙ ap (λ x. written x 1 (length k ∷ [])) (set-written out 0 op (omega arith))
-    ∙ written-then out 0 (op ∷ []) (length k ∷ []) (omega arith) in
-    let b : r1 ≡ written out 0 (op ∷ length k ∷ k) = e1 ∙ ap (λ x. written x 2 k) a ∙ written-then out 0 (op ∷ length k ∷ []) k (omega arith) in
-    let z : 2 + length k ≡ 0 + length (op ∷ length k ∷ k) = omega arith in
-    e2 ∙ ap₂ (λ x n. written x n v) b z ∙ written-then out 0 (op ∷ length k ∷ k) v (omega arith) ∙ laid-written (op ∷ length k ∷ (k ++ v)) out
+    ∙ written-then out 0 1 (op ∷ []) (length k ∷ []) refl (omega arith) in
+    let b : r1 ≡ written out 0 (op ∷ length k ∷ k) = e1 ∙ ap (λ x. written x 2 k) a ∙ written-then out 0 2 (op ∷ length k ∷ []) k refl (omega arith) in
+    let z : 2 + length k ≡ 0 + (2 + length k) = omega arith in
+    e2 ∙ ap₂ (λ x n. written x n v) b z ∙ written-then out 0 (2 + length k) (op ∷ length k ∷ k) v (omega arith) (omega arith) ∙ laid-written (op ∷ length k ∷ (k ++ v)) out
 
 -- ---- an entry
 

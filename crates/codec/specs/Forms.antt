@@ -1,9 +1,9 @@
 -- The forms of the codecs' contracts: what an answer says of the definition, and what a caller may know besides.
 use mathlib.Core.Path.{_≡_}
-use mathlib.Core.List.{List, [], _∷_, _++_}
+use mathlib.Core.List.{_∷_, _++_}
 use mathlib.Core.Option.{Option, none, some}
 use Prim.Native.Nat.{ℕ, _+_, _-_, _≤_, _<_}
-use lib.ListN.{length, take, drop, replicate}
+use lib.ListN.{length, replicate}
 use lib.Dec.{ltb}
 use Rattle.definition.specs.Tools.{Bytes, pick, opt}
 use Rattle.definition.specs.Codec.{Op, Put, Delete, keyRead, keyIn, markerOf, entryOf, opFault, encode, encodeInto, laidIf}
@@ -20,10 +20,6 @@ use Rattle.codec.specs.declared.OpKind.{OpKind}
 use Rattle.codec.specs.declared.OpKind.the-variants as K
 use Rattle.codec.specs.declared.Checked.{Checked}
 use Rattle.codec.specs.declared.Checked.the-variants as C
-
--- out with the bytes of src from `at` on
-unfoldable pub written : Bytes → ℕ → Bytes → Bytes
-written out at src = take at out ++ (src ++ drop (at + length src) out)
 
 -- a key's bytes, then zeros
 unfoldable pub padded : Bytes → Bytes

@@ -8,11 +8,11 @@ use definition::Marker;
 use definition::Order;
 use definition::SerializationKind;
 ghost use mathlib.Core.Path.{_≡_};
-ghost use Prim.Native.Nat.{_+_, _*_, _≤_, _<_};
+ghost use Prim.Native.Nat.{_+_, _≤_, _<_};
 ghost use lib.ListN.{length};
 ghost use Rattle.definition.specs.Codec;
-ghost use Rattle.definition.specs.Codec.{Put, keyWrite, keyBytes, keyLength, be16At, journalKey, marker, markerKey, opFault, entryOf, keyPart, valuePart, laidIf};
-ghost use Rattle.codec.specs.Forms.{written, padded, KeyLens, KeyReads, MarkerReads, EntryReads, EntryWrites, Encodes, Checks, opAs};
+ghost use Rattle.definition.specs.Codec.{Put, keyWrite, keyBytes, keyLength, journalKey, marker, markerKey, opFault, entryOf, keyPart, valuePart, laidIf};
+ghost use Rattle.codec.specs.Forms.{padded, KeyLens, KeyReads, MarkerReads, EntryReads, EntryWrites, Encodes, Checks, opAs};
 
 // What an operation of a batch is.
 pub enum OpKind {
@@ -38,31 +38,13 @@ pub struct KeyRead {
     pub key: Key,
 }
 
-fn wide(x: u8) -> usize
-    ensures { λ r. ⌜ (r ≡ x) × (r < 256) ⌝ }
-{
-    x as usize
-}
-
-// Copies src into out, from `at` on.
-pub fn copy_at(out: &mut [u8], at: usize, src: &[u8])
-    requires { ⌜ at + length (now src) ≤ length (now out) ⌝ }
-    ensures { λ _. ⌜ now (out .exit) ≡ written (now (out .entry)) at (now (src .entry)) ⌝ }
-{
-    let mut j: usize = 0;
-    while j < src.len() {
-        out[at + j] = src[j];
-        j += 1;
-    }
-}
-
 // A key's bytes, filled up with zeros.
 fn pad(key: &[u8]) -> [u8; 96]
     requires { ⌜ length (now key) ≤ 96 ⌝ }
     ensures { λ r. ⌜ r ≡ padded (now (key .entry)) ⌝ }
 {
     let mut bytes = [0u8; 96];
-    copy_at(&mut bytes, 0, key);
+    slices::copy_in(&mut bytes, 0, key);
     bytes
 }
 
@@ -76,7 +58,7 @@ impl Key {
         if buffer.len() == 0 {
             return CodecAnswer::Refused(Fault::Serialization(SerializationKind::BufferTooSmall));
         }
-        let n = wide(buffer[0]);
+        let n = slices::wide(buffer[0]);
         if Key::MAX_LEN < n {
             return CodecAnswer::Refused(Fault::Serialization(SerializationKind::InvalidData));
         }
@@ -126,7 +108,7 @@ impl Key {
             return CodecAnswer::Refused(Fault::Serialization(SerializationKind::BufferTooSmall));
         }
         out[0] = n as u8;
-        copy_at(out, 1, key);
+        slices::copy_in(out, 1, key);
         CodecAnswer::Len(n + 1)
     }
 
@@ -137,7 +119,7 @@ impl Key {
         if buffer.len() == 0 {
             return CodecAnswer::Refused(Fault::Serialization(SerializationKind::BufferTooSmall));
         }
-        CodecAnswer::Len(wide(buffer[0]) + 1)
+        CodecAnswer::Len(slices::wide(buffer[0]) + 1)
     }
 
     // Which of two keys comes first: unsigned bytes from the left, a proper prefix being smaller.
@@ -199,14 +181,6 @@ pub fn encode_marker(count: u16) -> [u8; 4]
     ]
 }
 
-// Two bytes, the higher first.
-fn pair(bytes: &[u8], at: usize) -> usize
-    requires { ⌜ at + 2 ≤ length (now bytes) ⌝ }
-    ensures { λ r. ⌜ (r ≡ be16At (now (bytes .entry)) at) × (r < 65536) ⌝ }
-{
-    wide(bytes[at]) * 256 + wide(bytes[at + 1])
-}
-
 // The count that a marker's bytes say, if they are a marker.
 pub fn decode_marker(bytes: &[u8]) -> Marker
     ensures { λ r. ⌜ MarkerReads (now (bytes .entry)) r ⌝ }
@@ -214,8 +188,8 @@ pub fn decode_marker(bytes: &[u8]) -> Marker
     if bytes.len() != 4 {
         return Marker::Unread;
     }
-    let count = pair(bytes, 0);
-    let check = pair(bytes, 2);
+    let count = slices::be16_at(bytes, 0);
+    let check = slices::be16_at(bytes, 2);
     if check != 65535 - count {
         return Marker::Unread;
     }
@@ -229,7 +203,7 @@ pub fn decode_entry(entry: &[u8]) -> Entry
     if entry.len() < 2 {
         return Entry::Corrupt;
     }
-    let n = wide(entry[1]);
+    let n = slices::wide(entry[1]);
     let to = 2 + n;
     if entry.len() < to {
         return Entry::Corrupt;
@@ -319,8 +293,8 @@ fn encode_entry(op: u8, key: &[u8], value: &[u8], out: &mut [u8]) -> CodecAnswer
     }
     out[0] = op;
     out[1] = key.len() as u8;
-    copy_at(out, 2, key);
-    copy_at(out, to, value);
+    slices::copy_in(out, 2, key);
+    slices::copy_in(out, to, value);
     CodecAnswer::Len(n)
 }
 

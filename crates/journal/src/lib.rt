@@ -124,7 +124,7 @@ fn is_marker(region: &[u8], spot: Spot, count: u16) -> bool
         return false;
     };
     let marker = codec::encode_marker(count);
-    region::same(region::part(region, at, len), &marker)
+    slices::same(slices::part(region, at, len), &marker)
 }
 
 // ---- from the commit point on

@@ -3,8 +3,8 @@ use mathlib.Core.Path.{_≡_, refl, sym, ap, ap₂, _∙_}
 use mathlib.Core.Bool.{Bool, true, false}
 use mathlib.Core.List.{List, [], _∷_}
 use mathlib.Core.Option.{Option, none, some, Option·map}
-use Prim.Native.Nat.{ℕ, zero, suc, _+_, _-_, _*_, _≤_, _<_}
-use native.Mathlib.Nat.{le-refl, add-assoc}
+use Prim.Native.Nat.{ℕ, zero, suc, _+_, _-_, _≤_, _<_}
+use native.Mathlib.Nat.{le-refl}
 use native.Mathlib.Omega.{arith}
 use lib.Dec.{eqb}
 use borrow.Author.Tests.{le-leb, lt-leb, ne-eqb}
@@ -12,6 +12,7 @@ use lib.ListN.{length, getD, drop, length-drop}
 use lib.Seq.{getD-drop}
 use Rattle.definition.specs.Tools.{Bytes, pick, opt}
 use Rattle.definition.specs.Codec.{Op, Put, Delete}
+use Rattle.slices.proofs.Runs.{le16-further}
 use Rattle.definition.specs.Region.{Item, le16At, headSize, size, agrees, keySize, valueSize, itemAt}
 use Rattle.definition.specs.OperationList.{putKind, deleteKind, opAt, opSize, opsUpTo, opsOf}
 use Rattle.definition.proofs.Choices.{pick-yes, pick-no, opt-none, opt-some}
@@ -76,13 +77,12 @@ module _ (s : Bytes) (at : ℕ) where
   pub is-short : length s - at < headSize → Visit s at N.Nothing
   is-short h = no-room (omega (arith, size-some (drop at s)))
 
-  module _ {k v : ℕ} (ek : k ≡ getD s (at + 8) 0) (ev : v ≡ getD s (at + 6) 0 + getD s (at + 6 + 1) 0 * 256) where
+  module _ {k v : ℕ} (ek : k ≡ getD s (at + 8) 0) (ev : v ≡ le16At s (at + 6)) where
     key-there : keySize (drop at s) ≡ k
     key-there = getD-drop at s 8 0 ∙ sym ek
 
     value-there : valueSize (drop at s) ≡ v
-    unfolding le16At
-    value-there = ap₂ (λ (a b : ℕ). a + b * 256) (getD-drop at s 6 0) (getD-drop at s (6 + 1) 0 ∙ ap (λ (n : ℕ). getD s n 0) (sym (add-assoc at 6 1))) ∙ sym ev
+    value-there = le16-further s at 6 ∙ sym ev
 
     sized : opSize (drop at s) ≡ size k v
     unfolding opSize

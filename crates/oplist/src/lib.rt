@@ -3,8 +3,8 @@
 // `region::value_at`.
 use codec::OpKind;
 ghost use mathlib.Core.Path.{_≡_};
-ghost use Prim.Native.Nat.{_+_, _*_, _≤_, _<_};
-ghost use lib.ListN.{length, getD};
+ghost use Prim.Native.Nat.{_+_, _<_};
+ghost use lib.ListN.{length};
 ghost use Rattle.definition.specs.OperationList.{opsOf};
 ghost use Rattle.oplist.specs.Places.{Visit, shapeOf};
 
@@ -27,20 +27,6 @@ pub enum Shape {
     Malformed,
 }
 
-fn wide(x: u8) -> usize
-    ensures { λ r. ⌜ (r ≡ x) × (r < 256) ⌝ }
-{
-    x as usize
-}
-
-// Two bytes as a number, the lower first.
-fn pair(list: &[u8], at: usize) -> usize
-    requires { ⌜ at + 2 ≤ length (now list) ⌝ }
-    ensures { λ r. ⌜ (r ≡ getD (now (list .entry)) at 0 + getD (now (list .entry)) (at + 1) 0 * 256) × (r < 65536) ⌝ }
-{
-    wide(list[at]) + wide(list[at + 1]) * 256
-}
-
 // The operation at a place. It is told by its bytes: they are compared with those that its kind and lengths give.
 pub fn op_at(list: &[u8], at: usize) -> Next
     ensures { λ r. ⌜ Visit (now (list .entry)) at r ⌝ }
@@ -52,8 +38,8 @@ pub fn op_at(list: &[u8], at: usize) -> Next
     if left < HEAD_SIZE {
         return Next::Nothing;
     }
-    let klen = wide(list[at + 8]);
-    let vlen = pair(list, at + 6);
+    let klen = slices::wide(list[at + 8]);
+    let vlen = slices::le16_at(list, at + 6);
     let size = region::size(klen, vlen);
     if left < size {
         return Next::Nothing;

@@ -251,7 +251,7 @@ fn set_region(region: &mut [u8], out: &mut [u8], size: &[u8], given: &[u8], benc
         return bad_bench(out, bench);
     }
     erase(region);
-    region::copy_in(region, 0, &bytes[..count]);
+    slices::copy_in(region, 0, &bytes[..count]);
     let run = bench.run;
     Bench {
         region: size,
@@ -272,7 +272,7 @@ fn set_script(script: &mut [u8], out: &mut [u8], given: &[u8], bench: Bench) -> 
     if script.len() < count {
         return bad_bench(out, bench);
     }
-    region::copy_in(script, 0, &bytes[..count]);
+    slices::copy_in(script, 0, &bytes[..count]);
     let run = bench.run;
     let started = Step {
         at: 0,
@@ -407,7 +407,7 @@ fn put_found(region: &[u8], out: &mut [u8], waiting: usize, spot: Spot) -> usize
         return text::put(out, waiting, b"absent");
     };
     let waiting = text::put(out, waiting, b"found ");
-    put_bytes(out, waiting, region::part(region, at, len))
+    put_bytes(out, waiting, slices::part(region, at, len))
 }
 
 fn put_fetched(region: &[u8], script: &[u8], out: &mut [u8], key: &[u8], run: Run) -> Run {

@@ -50,7 +50,7 @@ fn copied(region: &[u8], at: usize, len: usize) -> [u8; 482]
     ensures { λ r. ⌜ take len r ≡ take len (drop at (now (region .entry))) ⌝ }
 {
     let mut bytes = [0u8; 482];
-    region::copy_out(region, at, len, &mut bytes);
+    slices::copy_out(region, at, len, &mut bytes);
     bytes
 }
 
@@ -202,6 +202,6 @@ pub fn recover(region: &mut [u8], script: &[u8], step: Step) -> ItemAnswer
     let Spot::At(at, len) = spot else {
         return discard(region, script, next);
     };
-    let marker = codec::decode_marker(region::part(region, at, len));
+    let marker = codec::decode_marker(slices::part(region, at, len));
     recover_by(region, script, marker, next)
 }

@@ -10,13 +10,13 @@ use borrow.Author.Tests.{le-leb, lt-leb, not-true, not-false}
 use lib.ListN.{length, getD, take, drop, length-drop}
 use lib.Seq.{getD-drop}
 use Rattle.definition.specs.Tools.{Bytes, pick, eqs}
-use Rattle.definition.specs.Region.{le16At, headSize, span, header, itemKind, allowed, blank, agrees, headOf, items, whole}
+use Rattle.definition.specs.Region.{le16At, headSize, span, header, itemKind, allowed, blank, agrees, headOf, items}
 use Rattle.definition.specs.declared.Head.the-variants.{Record, Bad}
 use Rattle.definition.proofs.Choices.{pick-yes, pick-no, bool}
 use Rattle.definition.proofs.Records.{bounded, blank-get, head-end, head-short, head-tests}
 use Rattle.definition.proofs.Image.{items-end, items-bad}
 use Rattle.region.specs.Places.{Met}
-use Rattle.region.proofs.Runs.{le16-further}
+use Rattle.slices.proofs.Runs.{le16-further}
 use Rattle.region.proofs.Walks.{met}
 
 module _ (s : Bytes) (at : ℕ) where

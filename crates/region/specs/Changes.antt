@@ -3,15 +3,11 @@ use mathlib.Core.Path.{_≡_}
 use mathlib.Core.Bool.{Bool, true, false}
 use mathlib.Core.List.{_++_}
 use Prim.Native.Nat.{ℕ, _+_}
-use lib.ListN.{length, take, drop, replicate}
+use lib.ListN.{take, drop, replicate}
 use Rattle.definition.specs.Tools.{Bytes}
 use Rattle.definition.specs.Region.{Item, good, roomIn, storeIn}
 use Rattle.region.specs.declared.Stored.{Stored}
 use Rattle.region.specs.declared.Stored.the-variants.{Done, Full}
-
--- s with the bytes e at `at`
-unfoldable pub written : Bytes → ℕ → Bytes → Bytes
-written s at e = take at s ++ (e ++ drop (at + length e) s)
 
 -- s without its n bytes at `at`: what follows moves down, and 0xFF fills the end
 unfoldable pub without : Bytes → ℕ → ℕ → Bytes

@@ -6,13 +6,12 @@ ghost use mathlib.Core.List.{_++_};
 ghost use Prim.Native.Nat.{_+_, _-_, _≤_, _<_};
 ghost use lib.ListN.{length, take, drop, replicate};
 ghost use lib.Seq.{paste};
-ghost use Rattle.definition.specs.Tools.{eqs};
 ghost use Rattle.definition.specs.Region;
-ghost use Rattle.definition.specs.Region.{item, distinct, removed, le16At, spanOf, recordOf, allowed, blank, items, whole, good, room, removeIn};
-ghost use Rattle.definition.specs.Codec.{laid};
+ghost use Rattle.definition.specs.Region.{item, distinct, removed, spanOf, recordOf, allowed, blank, items, whole, good, room, removeIn};
 ghost use Rattle.definition.specs.Recovery.{isJournal};
+ghost use Rattle.slices.specs.Written.{written};
 ghost use Rattle.region.specs.Places.{Visit, placeOf, keyAt, valueAt, Fetched, FirstJournal};
-ghost use Rattle.region.specs.Changes.{written, without, Now, Stores};
+ghost use Rattle.region.specs.Changes.{without, Now, Stores};
 
 // The bytes in front of a key.
 const HEAD_SIZE: usize = 9;
@@ -48,20 +47,6 @@ pub enum Stored {
 }
 
 // ---- one record
-
-fn wide(x: u8) -> usize
-    ensures { λ r. ⌜ (r ≡ x) × (r < 256) ⌝ }
-{
-    x as usize
-}
-
-// Two bytes as a number, the lower first.
-fn le16_at(bytes: &[u8], at: usize) -> usize
-    requires { ⌜ at + 2 ≤ length (now bytes) ⌝ }
-    ensures { λ r. ⌜ (r ≡ le16At (now (bytes .entry)) at) × (r < 65536) ⌝ }
-{
-    wide(bytes[at]) + wide(bytes[at + 1]) * 256
-}
 
 // A record's length field.
 pub fn size(klen: usize, vlen: usize) -> usize
@@ -109,23 +94,6 @@ pub fn header(kind: usize, klen: usize, vlen: usize) -> [u8; HEAD_SIZE]
     ]
 }
 
-// Whether two runs of bytes are the same.
-pub fn same(a: &[u8], b: &[u8]) -> bool
-    ensures { λ r. ⌜ r ≡ eqs (now (a .entry)) (now (b .entry)) ⌝ }
-{
-    if a.len() != b.len() {
-        return false;
-    }
-    let mut i: usize = 0;
-    while i < a.len() {
-        if a[i] != b[i] {
-            return false;
-        }
-        i += 1;
-    }
-    true
-}
-
 // Whether a record's first bytes are those of its kind and lengths.
 pub fn agrees(bytes: &[u8], at: usize, kind: usize, klen: usize, vlen: usize) -> bool
     requires { ⌜ at + Region.headSize ≤ length (now bytes) ⌝ }
@@ -134,7 +102,7 @@ pub fn agrees(bytes: &[u8], at: usize, kind: usize, klen: usize, vlen: usize) ->
 {
     let head = header(kind, klen, vlen);
     let to = at + HEAD_SIZE;
-    same(&bytes[at..to], &head)
+    slices::same(&bytes[at..to], &head)
 }
 
 // ---- what stands at a place
@@ -173,8 +141,8 @@ pub fn next_item(region: &[u8], at: usize) -> Next
     if left < HEAD_SIZE {
         return Next::Nothing;
     }
-    let klen = wide(region[at + 8]);
-    let vlen = le16_at(region, at + 6);
+    let klen = slices::wide(region[at + 8]);
+    let vlen = slices::le16_at(region, at + 6);
     if !is_allowed(klen, vlen) {
         return Next::Nothing;
     }
@@ -189,21 +157,12 @@ pub fn next_item(region: &[u8], at: usize) -> Next
     Next::Item(klen, vlen, next)
 }
 
-// Some bytes at a place.
-pub fn part(bytes: &[u8], at: usize, len: usize) -> &[u8]
-    requires { ⌜ at + len ≤ length (now bytes) ⌝ }
-    ensures { λ r. ⌜ now r ≡ take len (drop at (now (bytes .entry))) ⌝ }
-{
-    let to = at + len;
-    &bytes[at..to]
-}
-
 // The key of the record at a place.
 pub fn key_at(region: &[u8], at: usize, klen: usize) -> &[u8]
     requires { ⌜ at + Region.headSize + klen ≤ length (now region) ⌝ }
     ensures { λ r. ⌜ now r ≡ keyAt (now (region .entry)) at klen ⌝ }
 {
-    part(region, at + HEAD_SIZE, klen)
+    slices::part(region, at + HEAD_SIZE, klen)
 }
 
 // The value of the record at a place.
@@ -211,7 +170,7 @@ pub fn value_at(region: &[u8], at: usize, klen: usize, vlen: usize) -> &[u8]
     requires { ⌜ at + Region.headSize + klen + vlen ≤ length (now region) ⌝ }
     ensures { λ r. ⌜ now r ≡ valueAt (now (region .entry)) at klen vlen ⌝ }
 {
-    part(region, at + HEAD_SIZE + klen, vlen)
+    slices::part(region, at + HEAD_SIZE + klen, vlen)
 }
 
 // ---- the item with a key
@@ -225,7 +184,7 @@ fn find_from(region: &[u8], from: usize, key: &[u8]) -> Found
         let Next::Item(klen, vlen, next) = next_item(region, at) else {
             return Found::Nothing;
         };
-        if same(key_at(region, at, klen), key) {
+        if slices::same(key_at(region, at, klen), key) {
             return Found::At(at, klen, vlen);
         }
         at = next;
@@ -356,26 +315,6 @@ pub fn first_journal(region: &[u8]) -> Spot
 
 // ---- bytes written
 
-// Copies src to a place.
-pub fn copy_in(dst: &mut [u8], at: usize, src: &[u8])
-    requires { ⌜ at + length (now src) ≤ length (now dst) ⌝ }
-    ensures { λ _. ⌜ now (dst .exit) ≡ written (now (dst .entry)) at (now (src .entry)) ⌝ }
-{
-    let mut i: usize = 0;
-    while i < src.len() {
-        dst[at + i] = src[i];
-        i += 1;
-    }
-}
-
-// Copies a part of the region to the front of out.
-pub fn copy_out(region: &[u8], at: usize, len: usize, out: &mut [u8])
-    requires { ⌜ (at + len ≤ length (now region)) × (len ≤ length (now out)) ⌝ }
-    ensures { λ _. ⌜ now (out .exit) ≡ laid (take len (drop at (now (region .entry)))) (now (out .entry)) ⌝ }
-{
-    copy_in(out, 0, part(region, at, len));
-}
-
 // Writes a record at a place.
 pub fn put_record(dst: &mut [u8], at: usize, key: &[u8], value: &[u8])
     requires { ⌜ (length (now key) < 256) × (length (now value) < 65536) ⌝ }
@@ -383,11 +322,11 @@ pub fn put_record(dst: &mut [u8], at: usize, key: &[u8], value: &[u8])
     ensures { λ _. ⌜ now (dst .exit) ≡ written (now (dst .entry)) at (recordOf (item (now (key .entry)) (now (value .entry)))) ⌝ }
 {
     let head = header(ITEM_KIND, key.len(), value.len());
-    copy_in(dst, at, &head);
+    slices::copy_in(dst, at, &head);
     let key_from = at + HEAD_SIZE;
-    copy_in(dst, key_from, key);
+    slices::copy_in(dst, key_from, key);
     let value_from = key_from + key.len();
-    copy_in(dst, value_from, value);
+    slices::copy_in(dst, value_from, value);
 }
 
 // Moves the bytes from `from` on down to `at`, the lowest first, so that none is overwritten before it moved.

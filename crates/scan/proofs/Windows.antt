@@ -20,7 +20,7 @@ use Rattle.definition.specs.Scan.{isLess, rising, begins, insert, windowSize, l
 use Rattle.definition.proofs.Choices.{pick-yes, pick-no, opt-none, opt-some}
 use Rattle.definition.proofs.Records.{record-length}
 use Rattle.region.specs.Places.{keyAt, valueAt}
-use Rattle.region.specs.Changes.{written}
+use Rattle.slices.specs.Written.{written}
 use Rattle.scan.specs.declared.Place.{Place}
 use Rattle.scan.specs.declared.ScanWindow.{ScanWindow}
 use Rattle.scan.specs.declared.Last.{Last}

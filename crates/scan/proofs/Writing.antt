@@ -26,7 +26,7 @@ use Rattle.definition.specs.declared.ScanEnd.the-variants as E
 use Rattle.definition.specs.declared.Scanned.{Scanned}
 use Rattle.definition.proofs.Choices.{pick-yes, pick-no}
 use Rattle.definition.proofs.Image.{good-parts, records-append}
-use Rattle.region.specs.Changes.{written}
+use Rattle.slices.specs.Written.{written}
 use Rattle.items.specs.declared.ItemAnswer.{ItemAnswer}
 use Rattle.items.specs.declared.ItemAnswer.the-variants.{Done, Failed}
 use Rattle.items.proofs.Along.{runs-ret, Left, left-as, left-end, left-turn, left-else}

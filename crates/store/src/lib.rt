@@ -209,7 +209,7 @@ fn get_key(
     if out.len() < len {
         return get_reply(GetAnswer::Refused(Fault::OutputTooSmall(len)), health, next);
     }
-    region::copy_out(region, at, len, out);
+    slices::copy_out(region, at, len, out);
     get_reply(GetAnswer::Found(len), health, next)
 }
 

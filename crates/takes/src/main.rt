@@ -139,11 +139,11 @@ fn add_record(list: &mut [u8], used: usize, kind: usize, key: &[u8], value: &[u8
     if list.len() - used < head.len() + key.len() + value.len() {
         return Filled::Unread;
     }
-    region::copy_in(list, used, &head);
+    slices::copy_in(list, used, &head);
     let key_from = used + head.len();
-    region::copy_in(list, key_from, key);
+    slices::copy_in(list, key_from, key);
     let value_from = key_from + key.len();
-    region::copy_in(list, value_from, value);
+    slices::copy_in(list, value_from, value);
     Filled::To(value_from + value.len())
 }
 
@@ -634,7 +634,7 @@ fn script_line(
     if script.len() < count {
         return bad_console(out, console);
     }
-    region::copy_in(script, 0, &work[..count]);
+    slices::copy_in(script, 0, &work[..count]);
     let said = restarted(console.said);
     Console {
         region: console.region,

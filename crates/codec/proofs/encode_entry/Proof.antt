@@ -36,17 +36,17 @@ cast-out c = let k = fine-bounds (c .before .before .before .check-op .ensures) 
 slice-write-out-2 : tie.Need-slice-write-out-2
 slice-write-out-2 c = let k = fine-bounds (c .before .before .before .check-op .ensures) (c .before .enum-told .given .1) in simp length-set (omega arith)
 
-copy-at-requires : tie.Need-copy-at-requires
-copy-at-requires c κs = let k = fine-bounds (c .before .before .before .before .check-op .ensures) (c .before .before .enum-told .given .1) in simp length-set (omega arith)
+copy-in-requires : tie.Need-copy-in-requires
+copy-in-requires c κs = let k = fine-bounds (c .before .before .before .before .check-op .ensures) (c .before .before .enum-told .given .1) in simp length-set (omega arith)
 
-copy-at-requires-2 : tie.Need-copy-at-requires-2
-copy-at-requires-2 c κs = let k = fine-bounds (c .before .before .before .before .before .before .before .before .check-op .ensures) (c .before .before .before .before .before .before .enum-told .given .1) in let l = c .before .before .before .copy-at .kept .0 in omega (arith, simp length-set at l)
+copy-in-requires-2 : tie.Need-copy-in-requires-2
+copy-in-requires-2 c κs = let k = fine-bounds (c .before .before .before .before .before .before .before .before .check-op .ensures) (c .before .before .before .before .before .before .enum-told .given .1) in let l = c .before .before .before .copy-in .kept .0 in omega (arith, simp length-set at l)
 
 same-length : tie.Need-same-length
-same-length c = c .before .before .copy-at2 .kept .0 ∙ c .before .before .before .before .before .before .copy-at .kept .0 ∙ simp length-set
+same-length c = c .before .before .copy-in2 .kept .0 ∙ c .before .before .before .before .before .before .copy-in .kept .0 ∙ simp length-set
 
 returns-3 : tie.Need-returns-3
-returns-3 c = entry-made _ _ _ _ (c .before .before .before .before .before .before .before .before .before .before .before .check-op .ensures) (c .before .before .before .before .before .before .before .before .before .enum-told .given .1) _ _ (c .before .before .before .before .before .before .before .before .if1 .left) (c .before .before .before .before .before .before .copy-at .ensures) (c .before .before .copy-at2 .ensures)
+returns-3 c = entry-made _ _ _ _ (c .before .before .before .before .before .before .before .before .before .before .before .check-op .ensures) (c .before .before .before .before .before .before .before .before .before .enum-told .given .1) _ _ (c .before .before .before .before .before .before .before .before .if1 .left) (c .before .before .before .before .before .before .copy-in .ensures) (c .before .before .copy-in2 .ensures)
 
 pub encode-entry-spec : {M : Type 1} → statement M
 encode-entry-spec =
@@ -62,7 +62,7 @@ encode-entry-spec =
     slice-write-out
     cast-out
     slice-write-out-2
-    copy-at-requires
-    copy-at-requires-2
+    copy-in-requires
+    copy-in-requires-2
     same-length
     returns-3)

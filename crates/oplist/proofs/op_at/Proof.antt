@@ -22,17 +22,17 @@ shared-slice-read-wide c = search needs
 wide-requires : tie.Need-wide-requires
 wide-requires c κs = search needs
 
-add-pair : tie.Need-add-pair
-add-pair c = search needs
+add-le16-at : tie.Need-add-le16-at
+add-le16-at c = search needs
 
-pair-requires : tie.Need-pair-requires
-pair-requires c κs = search needs
+le16-at-requires : tie.Need-le16-at-requires
+le16-at-requires c κs = search needs
 
 size-requires : tie.Need-size-requires
 size-requires c κs = search needs
 
 returns-3 : tie.Need-returns-3
-returns-3 c = is-cut (c .before .before .before .before .before .before .before .before .args .list .now) (c .before .before .before .before .before .before .before .before .args .at) (c .before .before .before .wide .ensures .0) (c .before .before .pair .ensures .0) (c .before .size .ensures) (c .if3 .taken)
+returns-3 c = is-cut (c .before .before .before .before .before .before .before .before .args .list .now) (c .before .before .before .before .before .before .before .before .args .at) (c .before .before .before .wide .ensures .0) (c .before .before .le16-at .ensures .0) (c .before .size .ensures) (c .if3 .taken)
 
 add-next : tie.Need-add-next
 add-next c = search needs
@@ -41,16 +41,16 @@ agrees-requires : tie.Need-agrees-requires
 agrees-requires c κs = search needs
 
 returns-4 : tie.Need-returns-4
-returns-4 c = is-put (c .before .before .before .before .before .before .before .before .before .before .args .list .now) (c .before .before .before .before .before .before .before .before .before .before .args .at) (c .before .before .before .before .before .wide .ensures .0) (c .before .before .before .before .pair .ensures .0) (c .before .before .before .size .ensures) (c .before .before .if3 .left) (c .before .agrees .ensures) (c .before .before .before .before .before .before .before .before .if1 .left) (c .if4 .taken)
+returns-4 c = is-put (c .before .before .before .before .before .before .before .before .before .before .args .list .now) (c .before .before .before .before .before .before .before .before .before .before .args .at) (c .before .before .before .before .before .wide .ensures .0) (c .before .before .before .before .le16-at .ensures .0) (c .before .before .before .size .ensures) (c .before .before .if3 .left) (c .before .agrees .ensures) (c .before .before .before .before .before .before .before .before .if1 .left) (c .if4 .taken)
 
 agrees-requires-2 : tie.Need-agrees-requires-2
 agrees-requires-2 c κs = search needs
 
 returns-5 : tie.Need-returns-5
-returns-5 c = is-delete (c .before .before .before .before .before .before .before .before .before .before .before .before .args .list .now) (c .before .before .before .before .before .before .before .before .before .before .before .before .args .at) (c .before .before .before .before .before .before .before .wide .ensures .0) (c .before .before .before .before .before .before .pair .ensures .0) (c .before .before .before .before .before .size .ensures) (c .before .before .before .before .if3 .left) (c .before .before .before .agrees .ensures) (c .before .before .if4 .left) (c .before .agrees2 .ensures) (c .before .before .before .before .before .before .before .before .before .before .if1 .left) (c .if5 .taken)
+returns-5 c = is-delete (c .before .before .before .before .before .before .before .before .before .before .before .before .args .list .now) (c .before .before .before .before .before .before .before .before .before .before .before .before .args .at) (c .before .before .before .before .before .before .before .wide .ensures .0) (c .before .before .before .before .before .before .le16-at .ensures .0) (c .before .before .before .before .before .size .ensures) (c .before .before .before .before .if3 .left) (c .before .before .before .agrees .ensures) (c .before .before .if4 .left) (c .before .agrees2 .ensures) (c .before .before .before .before .before .before .before .before .before .before .if1 .left) (c .if5 .taken)
 
 returns-6 : tie.Need-returns-6
-returns-6 c = is-neither (c .before .before .before .before .before .before .before .before .before .before .before .before .args .list .now) (c .before .before .before .before .before .before .before .before .before .before .before .before .args .at) (c .before .before .before .before .before .before .before .wide .ensures .0) (c .before .before .before .before .before .before .pair .ensures .0) (c .before .before .before .before .before .size .ensures) (c .before .before .before .before .if3 .left) (c .before .before .before .agrees .ensures) (c .before .before .if4 .left) (c .before .agrees2 .ensures) (c .if5 .left)
+returns-6 c = is-neither (c .before .before .before .before .before .before .before .before .before .before .before .before .args .list .now) (c .before .before .before .before .before .before .before .before .before .before .before .before .args .at) (c .before .before .before .before .before .before .before .wide .ensures .0) (c .before .before .before .before .before .before .le16-at .ensures .0) (c .before .before .before .before .before .size .ensures) (c .before .before .before .before .if3 .left) (c .before .before .before .agrees .ensures) (c .before .before .if4 .left) (c .before .agrees2 .ensures) (c .if5 .left)
 
 pub op-at-spec : {M : Type 1} → statement M
 op-at-spec =
@@ -62,8 +62,8 @@ op-at-spec =
     add-wide
     shared-slice-read-wide
     wide-requires
-    add-pair
-    pair-requires
+    add-le16-at
+    le16-at-requires
     size-requires
     returns-3
     add-next

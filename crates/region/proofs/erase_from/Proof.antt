@@ -2,7 +2,7 @@ use borrow.Author.Needs.{needs}
 use Prim.Native.Nat.{ℕ, _-_}
 use mathlib.Core.Path.{sym}
 use lib.ListN.{length, replicate, length-replicate, getD-replicate}
-use Rattle.region.proofs.Copying.{Copied, copied-none, copied-more, filled}
+use Rattle.slices.proofs.Copying.{Copied, copied-none, copied-more, filled}
 use Rattle.region.proofs.erase_from.Statement.{statement}
 use Rattle.region.proofs.erase_from.Tie as tie
 

@@ -1,5 +1,4 @@
 use borrow.Author.Needs.{needs}
-use mathlib.Core.Path.{_≡_}
 use Rattle.definition.specs.Region.{spanOf}
 use Rattle.definition.proofs.Records.{bounded, span-small}
 use Rattle.region.proofs.Changing.{room-is}

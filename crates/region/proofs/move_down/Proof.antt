@@ -4,7 +4,7 @@ use native.Mathlib.Omega.{arith}
 use mathlib.Core.Path.{sym, _∙_}
 use lib.ListN.{length, drop, length-drop}
 use lib.Seq.{getD-drop}
-use Rattle.region.proofs.Copying.{Copied, copied-none, copied-more, copied-ahead, copied-all}
+use Rattle.slices.proofs.Copying.{Copied, copied-none, copied-more, copied-ahead, copied-all}
 use Rattle.region.proofs.move_down.Statement.{statement}
 use Rattle.region.proofs.move_down.Tie as tie
 

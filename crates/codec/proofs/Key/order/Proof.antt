@@ -1,6 +1,6 @@
 use borrow.Author.Needs.{needs}
 use Rattle.codec.proofs.Laws.{order-out, order-less, order-greater, order-next, order-ends, order-same}
-use Prim.Native.Nat.{_+_, _≤_, _-_, zero-le}
+use Prim.Native.Nat.{_≤_, _-_, zero-le}
 use mathlib.Core.Path.{_≡_, refl, _∙_}
 use native.Mathlib.Omega.{arith}
 use lib.ListN.{length, drop}

@@ -24,18 +24,18 @@ cast-out c = search needs
 slice-write-out : tie.Need-slice-write-out
 slice-write-out c = search needs
 
-copy-at-requires : tie.Need-copy-at-requires
-copy-at-requires c κs = simp length-set (omega arith)
+copy-in-requires : tie.Need-copy-in-requires
+copy-in-requires c κs = simp length-set (omega arith)
 
 add-t7 : tie.Need-add-t7
 add-t7 c = search needs
 
 same-length : tie.Need-same-length
-same-length c = c .before .before .copy-at .kept .0 ∙ simp length-set
+same-length c = c .before .before .copy-in .kept .0 ∙ simp length-set
 
 returns-3 : tie.Need-returns-3
 unfolding laidIf
-returns-3 c = (write-fits _ _ (c .before .before .before .before .before .if1 .left) (c .before .before .before .before .if2 .left), c .before .before .copy-at .ensures ∙ key-laid _ _ (c .before .before .before .before .if2 .left))
+returns-3 c = (write-fits _ _ (c .before .before .before .before .before .if1 .left) (c .before .before .before .before .if2 .left), c .before .before .copy-in .ensures ∙ key-laid _ _ (c .before .before .before .before .if2 .left))
 
 pub write-spec : {M : Type 1} → statement M
 write-spec =
@@ -46,7 +46,7 @@ write-spec =
     returns-2
     cast-out
     slice-write-out
-    copy-at-requires
+    copy-in-requires
     add-t7
     same-length
     returns-3)
