@@ -39,10 +39,10 @@ use Rattle.definition.proofs.Batches as Batches
 use Rattle.definition.proofs.Listings as Listings
 use Rattle.definition.proofs.Scans as Scans
 use Rattle.promise.specs.Run.{Call, rescript, mount, get, contains, put, delete, applyBatch, scanPrefix, Heard, answered, told, got, listed, refusalOf, Moment, made, stateAfter, mounting, turn, later}
-use Rattle.promise.specs.Promise.{Plain, after, afterAll, rises, AllOf, outright, Kept, end, then}
+use Rattle.promise.specs.Promise.{Plain, after, afterAll, rises, AllOf, Kept, end, then}
 use Rattle.promise.specs.Promise as P
-use Rattle.promise.specs.Beside.{Handed, handed, untouched, FirstOf, Ended, Wrote, wrote, Shows, Shown}
-use Rattle.promise.proofs.Faults.{ItemFault, Outright, item-outright, item-not-13, caused-item, script-obeys, put-outright, batch-outright, region-outright}
+use Rattle.promise.specs.Beside.{handed, untouched, FirstOf, Ended, wrote, Shows, Shown}
+use Rattle.promise.proofs.Faults.{ItemFault, outright, Outright, item-range, outright-range, item-outright, item-not-13, caused-item, script-obeys, put-outright, batch-outright, region-outright}
 use Rattle.promise.proofs.AtBytes.{base, rising-order, Standing, Whichever, Holds, whichever, image-good, on-public}
 
 -- ---- the same map and the same lists, in the words of the definition's proofs and in the promise's
@@ -73,6 +73,17 @@ whole-is {is = is} x = record { in-order = rises-is is (x .rises); complete = x 
 
 first-of-all : {prefix : Bytes} {A : Plain} {is : List Item} → AllOf prefix A is → FirstOf prefix A is
 first-of-all x = record { in-order = x .in-order; complete = λ k e. x .complete k }
+
+-- ---- a refusal's number, as the calls' proofs know it and as the promise says it
+
+pub out-of : {A : Plain} {c : Call} {h : Heard} {f : Fault} → refusalOf h ≡ some f → Outright f → P.Step A c h A
+out-of {f = f} r x = let n = outright-range f x in P.out r (n .0) (n .1) (n .2)
+
+put-in-of : {A : Plain} {key value : Bytes} {f : Fault} → ItemFault f → P.Step A (put key value) (answered (Refused f)) (after (Put key value) A)
+put-in-of {f = f} x = let n = item-range f x in P.put-in (n .0) (n .1)
+
+delete-in-of : {A : Plain} {key : Bytes} {f : Fault} → ItemFault f → P.Step A (delete key) (told (Truth.Refused f)) (after (Delete key) A)
+delete-in-of {f = f} x = let n = item-range f x in P.delete-in (n .0) (n .1)
 
 -- ---- any script brings item faults only
 
@@ -108,32 +119,32 @@ module _ (len : ℕ) where
     unfolding laid outright number pick refusalOf getRefusal Shows
     get-done (Answers.get-found e m) = done A (P.ok (P.get-found e)) (handed refl) m
     get-done (Answers.get-absent e m) = done A (P.ok (P.get-absent e)) (handed refl) m
-    get-done (Answers.get-small e l m) = done A (P.out refl refl) untouched m
-    get-done (Answers.get-failed c m) = done A (P.out refl (item-outright _ (caused-item _ c))) untouched m
+    get-done (Answers.get-small e l m) = done A (out-of refl refl) untouched m
+    get-done (Answers.get-failed c m) = done A (out-of refl (item-outright _ (caused-item _ c))) untouched m
 
     contains-done : {key : Bytes} {r : Said TruthAnswer} {s : Bytes} → Answers.ContainsSays flat flat-laws base len ItemFault A key r s
         → Done A (contains key) (told (r .answer)) (r .health) s
     unfolding refusalOf truthRefusal Shows
     contains-done (Answers.contains-yes e m) = done A (P.ok (P.contains-yes e)) tt m
     contains-done (Answers.contains-no e m) = done A (P.ok (P.contains-no e)) tt m
-    contains-done (Answers.contains-failed c m) = done A (P.out refl (item-outright _ (caused-item _ c))) tt m
+    contains-done (Answers.contains-failed c m) = done A (out-of refl (item-outright _ (caused-item _ c))) tt m
 
     put-done : {key value : Bytes} {r : Said Answer} {s : Bytes} → Answers.PutSays flat flat-laws base len ItemFault A key value r s
         → Done A (put key value) (answered (r .answer)) (r .health) s
     unfolding refusalOf refusal Shows
     put-done {key} {value} (Answers.put-done {h = h} {s = s} m) = also h s (after-is (Put key value) A) (P.ok P.put-ok) tt m
-    put-done (Answers.put-refused e m) = done A (P.out refl (put-outright _ _ _ e)) tt m
-    put-done {key} {value} (Answers.put-in {h = h} {s = s} c m) = also h s (after-is (Put key value) A) (P.put-in (caused-item _ c)) tt m
-    put-done (Answers.put-out c m) = done A (P.out refl (item-outright _ (caused-item _ c))) tt m
+    put-done (Answers.put-refused e m) = done A (out-of refl (put-outright _ _ _ e)) tt m
+    put-done {key} {value} (Answers.put-in {h = h} {s = s} c m) = also h s (after-is (Put key value) A) (put-in-of (caused-item _ c)) tt m
+    put-done (Answers.put-out c m) = done A (out-of refl (item-outright _ (caused-item _ c))) tt m
 
     delete-done : {key : Bytes} {r : Said TruthAnswer} {s : Bytes} → Answers.DeleteSays flat flat-laws base len ItemFault A key r s
         → Done A (delete key) (told (r .answer)) (r .health) s
     unfolding outright number pick refusalOf truthRefusal Shows
     delete-done {key} (Answers.delete-yes {h = h} {s = s} e m) = also h s (after-is (Delete key) A) (P.ok (P.delete-yes e)) tt m
     delete-done (Answers.delete-no e m) = done A (P.ok (P.delete-no e)) tt m
-    delete-done (Answers.delete-reserved m) = done A (P.out refl refl) tt m
-    delete-done {key} (Answers.delete-in {h = h} {s = s} c m) = also h s (after-is (Delete key) A) (P.delete-in (caused-item _ c)) tt m
-    delete-done (Answers.delete-out c m) = done A (P.out refl (item-outright _ (caused-item _ c))) tt m
+    delete-done (Answers.delete-reserved m) = done A (out-of refl refl) tt m
+    delete-done {key} (Answers.delete-in {h = h} {s = s} c m) = also h s (after-is (Delete key) A) (delete-in-of (caused-item _ c)) tt m
+    delete-done (Answers.delete-out c m) = done A (out-of refl (item-outright _ (caused-item _ c))) tt m
 
     batch-done : {list : Bytes} {ops : List Op} {r : Said Answer} {s : Bytes} → opsOf list ≡ some ops
         → Batches.BatchSays flat flat-laws base len ItemFault A ops r s → Done A (applyBatch list) (answered (r .answer)) (r .health) s
@@ -142,8 +153,8 @@ module _ (len : ℕ) where
     batch-done {ops = ops} e (Batches.batch-committed {h = h} {s = s} m) = also h s (afterAll-is ops A) (P.committed (P.batch-ok e)) tt m
     batch-done {ops = ops} e (Batches.batch-in {h = h} {s = s} m) = also h s (afterAll-is ops A) (P.uncertain-in (P.batch-ok e)) tt m
     batch-done e (Batches.batch-out m) = done A P.uncertain-out tt m
-    batch-done e (Batches.batch-failed c m) = done A (P.out refl (item-outright _ (caused-item _ c))) tt m
-    batch-done e (Batches.batch-refused x m) = done A (P.out refl (batch-outright _ _ x)) tt m
+    batch-done e (Batches.batch-failed c m) = done A (out-of refl (item-outright _ (caused-item _ c))) tt m
+    batch-done e (Batches.batch-refused x m) = done A (out-of refl (batch-outright _ _ x)) tt m
 
     scan-done : {prefix output : Bytes} {most : ℕ} {r : Said Scanned} {s : Bytes}
         → Scans.ScanSays rising rising-order flat flat-laws base len ItemFault A prefix most (length output) r s
@@ -152,7 +163,7 @@ module _ (len : ℕ) where
     scan-done (Scans.scan-finished x m) = done A (P.ok (P.scan-finished (whole-is x))) (wrote (first-of-all (whole-is x)) tt) m
     scan-done (Scans.scan-stopped x l m) = done A P.stopped (wrote (first-is x) l) m
     scan-done (Scans.scan-full i x y l m) = done A P.no-room (wrote (first-is x) (i, first-is y, l)) m
-    scan-done (Scans.scan-failed f x m) = done A (P.out refl (fault-outright f)) (wrote (first-is x) tt) m
+    scan-done (Scans.scan-failed f x m) = done A (out-of refl (fault-outright f)) (wrote (first-is x) tt) m
       where
         fault-outright : {f : Fault} → Scans.ScanFault rising rising-order flat flat-laws base len ItemFault f → Outright f
         fault-outright (Scans.scan-caused c) = item-outright _ (caused-item _ c)
@@ -212,7 +223,7 @@ module _ (len : ℕ) where
         → Ensures ItemFault (λ r s. Done A (applyBatch list) (answered (r .answer)) (r .health) s) Never (batchOf flat (opsOf list) (st .health)) region
     unfolding batchOf outright number pick refusalOf refusal Shows
     list-ensures list =
-        by-option (opsOf list) _ _ (λ e. by-ret (done A (P.out refl refl) tt m))
+        by-option (opsOf list) _ _ (λ e. by-ret (done A (out-of refl refl) tt m))
         (λ ops e. weaken (Batches.batch-ensures flat flat-laws base len ItemFault item-not-13 A ops (st .health) region m) (λ r s q. batch-done e q) (λ f s x. x))
 
     batch-call : (list : Bytes)
@@ -230,7 +241,7 @@ module _ (len : ℕ) where
       → Answers.MountSays flat flat-laws base len ItemFault A r s → Mounted A start at (outcome (r .answer) (state (r .health) place cut) calls s output)
   unfolding stateAfter refusalOf refusal
   mount-says (Answers.mount-done m) = record { step = P.ok P.mounted; holds = m }
-  mount-says (Answers.mount-failed c m) = record { step = P.out refl (item-outright _ (caused-item _ c)); holds = m }
+  mount-says (Answers.mount-failed c m) = record { step = out-of refl (item-outright _ (caused-item _ c)); holds = m }
 
   mount-call : (A : Plain) (region script : Bytes) (start at : ℕ) → Whichever len A region → Mounted A start at (Public.mount region script start at)
   unfolding Public.mount stateAfter refusalOf refusal
@@ -238,7 +249,7 @@ module _ (len : ℕ) where
       opt-to (Mounted A start at) (regionFault start (length region))
       (λ e. on-public Refused (Mounted A start at) (Calls.mount flat) region script (state Pending at false) [] (image-good len m)
       (runs region script (state Pending at false) (Answers.mount-ensures flat flat-laws base len ItemFault region m)) (λ r w q. mount-says q))
-      (λ f e. record { step = P.out refl (region-outright _ _ f e); holds = m })
+      (λ f e. record { step = out-of refl (region-outright _ _ f e); holds = m })
 
   -- ---- a turn
 

@@ -92,11 +92,11 @@ older-after = refl
 get-keeps : {A B : Plain} {key output shown : Bytes} {g : GetAnswer} → Step A (get key output) (got g shown) B → B ≡ A
 get-keeps (P.ok (P.get-found e)) = refl
 get-keeps (P.ok (P.get-absent e)) = refl
-get-keeps (P.out r x) = refl
+get-keeps (P.out r x y z) = refl
 
 mount-keeps : {A B : Plain} {start at : ℕ} → Step A (mount start at) (answered Ok) B → B ≡ A
 mount-keeps (P.ok P.mounted) = refl
-mount-keeps (P.out r x) = refl
+mount-keeps (P.out r x y z) = refl
 
 record Value (A : Plain) (key output shown : Bytes) (n : ℕ) : Type 0 where
   value : Bytes
@@ -107,7 +107,7 @@ record Value (A : Plain) (key output shown : Bytes) (n : ℕ) : Type 0 where
 get-value : {A B : Plain} {key output shown : Bytes} {n : ℕ} → Step A (get key output) (got (Get.Found n) shown) B → Value A key output shown n
 unfolding refusalOf getRefusal
 get-value (P.ok (P.get-found {v = v} e)) = record { value = v; is = e; size = refl; seen = refl }
-get-value (P.out r x) = absurd (none≢some r)
+get-value (P.out r x y z) = absurd (none≢some r)
 
 one-byte : {o : Option Bytes} {x : ℕ} (v : Bytes) → o ≡ some v → 1 ≡ length v → x ∷ [] ≡ laid v (0 ∷ []) → o ≡ some (x ∷ [])
 unfolding laid

@@ -1,5 +1,5 @@
--- The promise, proved: from a region with no bookkeeping items every run is answered as a plain map answers; the region keeps its length; and 13 is
--- never answered.
+-- The promise, proved: from a region with no bookkeeping items every run is answered as a plain map answers, with outputs that show it; the region
+-- keeps its length; and 13 is never answered.
 use mathlib.Core.Path.{_≡_, refl, sym, ap, _∙_, subst}
 use mathlib.Core.Logic.{_≢_}
 use mathlib.Core.Bool.{true, false}
@@ -8,9 +8,8 @@ use mathlib.Core.Option.{Option, none, some}
 use Prim.Native.Nat.{ℕ}
 use native.Mathlib.Omega.{arith}
 use lib.ListN.{length}
-use borrow.Author.Tests.{eq-eqb}
 use Rattle.definition.specs.Tools.{Bytes, pick, opt}
-use Rattle.definition.specs.Region.{Item, hasKey, fetched, items, good, look}
+use Rattle.definition.specs.Region.{good}
 use Rattle.definition.specs.Codec.{reserved, markerKey}
 use Rattle.definition.specs.Numbers.{number, refusal, getRefusal, truthRefusal, scanRefusal}
 use Rattle.definition.specs.Calls.{unstorable, regionFault}
@@ -20,18 +19,17 @@ use Rattle.definition.specs.declared.State.{State}
 use Rattle.definition.specs.declared.Fault.{Fault}
 use Rattle.definition.specs.declared.Answer.{Answer}
 use Rattle.definition.specs.declared.Answer.the-variants.{Refused}
-use Rattle.definition.proofs.Choices.{pick-yes, pick-no, bool, opt-to, true≢false}
+use Rattle.definition.proofs.Choices.{pick-no, bool, opt-to}
 use Rattle.definition.proofs.Codecs.{marker-reserved}
-use Rattle.definition.proofs.Items.{key-of}
 use Rattle.definition.proofs.FlatLaws.{flat-laws}
 use Rattle.definition.proofs.StandsFor.{none≢some, out}
 use Rattle.promise.specs.Run.{Call, rescript, mount, get, contains, put, delete, applyBatch, scanPrefix, Heard, Moment, Turn, made, stateAfter, mounting, turn, later, refusalOf}
-use Rattle.promise.specs.Promise.{Plain, outright, Kept, end, then, Start, plainOf, Promise, Never13}
+use Rattle.promise.specs.Promise.{Plain, Kept, end, then, Start, plainOf, Promise, Never13}
 use Rattle.promise.specs.Promise as P
 use Rattle.promise.specs.Beside.{Shows, Shown, Outputs, LentWhole}
-use Rattle.promise.proofs.Faults.{Outright, item-outright, region-outright}
+use Rattle.promise.proofs.Faults.{outright, Outright, region-outright}
 use Rattle.promise.proofs.AtBytes.{Whichever, Holds, whichever, image-length}
-use Rattle.promise.proofs.Keeps.{run-kept, run-holds}
+use Rattle.promise.proofs.Keeps.{out-of, run-kept, run-holds}
 
 -- ---- the start
 
@@ -69,7 +67,7 @@ bad-turn A (rescript new at) region script g = record { step = P.unmade; shows =
 bad-turn A (mount start at) region script g = refused (bad-mount region script start at g)
   where
     refused : {r : Outcome Answer} → Spurned region r → Stays A (mount start at) region (mounting (record { region = region; script = script; newest = none }) r)
-    refused (spurned x) = record { step = P.out refl x; shows = tt; unmounted = refl; same = refl }
+    refused (spurned x) = record { step = out-of refl x; shows = tt; unmounted = refl; same = refl }
 bad-turn A (get key output) region script g = record { step = P.unmade; shows = tt; unmounted = refl; same = refl }
 bad-turn A (contains key) region script g = record { step = P.unmade; shows = tt; unmounted = refl; same = refl }
 bad-turn A (put key value) region script g = record { step = P.unmade; shows = tt; unmounted = refl; same = refl }
@@ -119,12 +117,8 @@ lent-whole m s run =
 some-is : {a b : Fault} → some a ≡ some b → a ≡ b
 some-is p = cc
 
-named : {g f : Fault} {n : ℕ} → n ≢ 13 → number g ≡ n → some g ≡ some f → number f ≢ 13
-named d q e p = d (sym q ∙ ap number (some-is e) ∙ p)
-
-outright-not-13 : {g f : Fault} → Outright g → some g ≡ some f → number f ≢ 13
-unfolding outright
-outright-not-13 {g} {f} x e p = true≢false x (pick-yes _ _ (eq-eqb _ _ (ap number (some-is e) ∙ p)))
+same-fault : {g f : Fault} → number g ≢ 13 → some g ≡ some f → number f ≢ 13
+same-fault d e p = d (ap number (some-is e) ∙ p)
 
 -- what the plain map does is no refusal
 no-refusal : {A B : Plain} {c : Call} {h : Heard} → P.Does A c h B → refusalOf h ≡ none
@@ -144,12 +138,12 @@ no-refusal (P.scan-finished x) = refl
 fault-heard : {A B : Plain} {c : Call} {h : Heard} → P.Step A c h B → (f : Fault) → refusalOf h ≡ some f → number f ≢ 13
 unfolding refusalOf refusal truthRefusal scanRefusal number
 fault-heard (P.ok x) f e = absurd (none≢some (sym (no-refusal x) ∙ e))
-fault-heard (P.committed x) f e = named {n = 15} (λ q. absurd (omega arith)) refl e
-fault-heard (P.uncertain-in x) f e = named {n = 16} (λ q. absurd (omega arith)) refl e
-fault-heard P.uncertain-out f e = named {n = 16} (λ q. absurd (omega arith)) refl e
-fault-heard (P.put-in x) f e = outright-not-13 (item-outright _ x) e
-fault-heard (P.delete-in x) f e = outright-not-13 (item-outright _ x) e
-fault-heard (P.out r x) f e = outright-not-13 x (sym r ∙ e)
+fault-heard (P.committed x) f e = same-fault (λ q. absurd (omega arith)) e
+fault-heard (P.uncertain-in x) f e = same-fault (λ q. absurd (omega arith)) e
+fault-heard P.uncertain-out f e = same-fault (λ q. absurd (omega arith)) e
+fault-heard (P.put-in a b) f e = same-fault (λ q. absurd (omega arith)) e
+fault-heard (P.delete-in a b) f e = same-fault (λ q. absurd (omega arith)) e
+fault-heard (P.out r x y z) f e = same-fault x (sym r ∙ e)
 fault-heard P.unmade f e = absurd (none≢some e)
 fault-heard P.stopped f e = absurd (none≢some e)
 fault-heard P.no-room f e = absurd (none≢some e)

@@ -1,5 +1,5 @@
--- What is proved beside the promise: more of scans and of refused gets, with the same map; the region's length; and the promise's last sentence,
--- that a store answers once faults stop. proofs/Promised, Lasts and Listed have the proofs.
+-- What is proved beside the promise. `Outputs`: what stands in the outputs of scans and refused gets, with the same maps (proofs/Promised).
+-- `LentWhole`: the region keeps its length (proofs/Promised). `LastSentence`: once faults stop the store answers (proofs/Lasts).
 use mathlib.Core.Path.{_≡_}
 use mathlib.Core.Bool.{false, true}
 use mathlib.Core.List.{List, [], _∷_, _++_}
@@ -33,7 +33,7 @@ pub data Handed : Call → GetAnswer → Bytes → Type 0 where
   handed : {c : Call} {a : GetAnswer} {shown : Bytes} → getRefusal a ≡ none → Handed c a shown
   untouched : {key output : Bytes} {f : Fault} → Handed (get key output) (Get.Refused f) output
 
--- the first of what the map has under a prefix, by rising keys: what misses nothing up to its own last key
+-- the first of what the map has under a prefix: it misses nothing up to its own last key (proofs/Listed: so it is the front of the map's one list)
 pub record FirstOf (prefix : Bytes) (A : Plain) (is : List Item) : Type 0 where
   pub in-order : rises is ≡ true
   pub complete : (k : Bytes) → beyond rising (lastOf none is) k ≡ false → fetched k is ≡ pick (begins prefix k) (A k) none
@@ -50,6 +50,7 @@ pub data Wrote (A : Plain) : Call → Scanned → Bytes → Type 0 where
   wrote : {prefix output : Bytes} {most : ℕ} {is : List Item} {e : ScanEnd} → FirstOf prefix A is → Ended A prefix most (length output) is e
       → Wrote A (scanPrefix prefix most output) (scanned e is) (laid (records is) output)
 
+-- what a call shows, while the map is A
 unfoldable pub Shows : Plain → Call → Heard → Type 0
 Shows A c nothing = Unit {0}
 Shows A c (answered a) = Unit {0}
@@ -57,7 +58,7 @@ Shows A c (told a) = Unit {0}
 Shows A c (got a shown) = Handed c a shown
 Shows A c (listed a shown) = Wrote A c a shown
 
--- of the same maps that keep the promise
+-- and so of every call in a run, with the maps that keep the promise
 unfoldable pub Shown : {A : Plain} {cs : List Call} {m : Moment} → Kept A cs m → Type 0
 Shown end = Unit {0}
 Shown (then {A} {c} {cs} {m} B step rest) = Shows A c (turn c m .heard) × Shown rest

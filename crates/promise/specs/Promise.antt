@@ -1,15 +1,15 @@
 -- Demand 3, the promise: whatever is called, whatever faults come, wherever the power is cut and the store mounted again, the answers are those of a
--- plain map. A run (Run) is any list of calls, new scripts, power cuts and mounts, refused ones included: each is the definition's public call, on
--- bytes, as the code's contracts cite it. The region is lent whole to each, and each is given the newest state: the last mount's, or what followed
--- from it; after a refused mount there is none, and no call is made. The theorem, `Promise`, stands at the end; Beside has what is proved besides.
+-- plain map. A run (Run) is any list of calls, new scripts, power cuts and mounts, refused ones included. Each is the definition's public call on
+-- bytes, which the code's contracts cite. The region is lent whole to each, and each is given the newest state: the last mount's, or what followed
+-- from it; after a refused mount there is none, and no call is made. The theorem, `Promise`, stands at the end. proofs/Promised proves it,
+-- proofs/Example computes such a run, proofs/Needed what goes wrong without the conditions; Beside has what holds besides.
 use mathlib.Core.Path.{_≡_}
 use mathlib.Core.Logic.{_≢_}
 use mathlib.Core.Bool.{Bool, true, false}
 use mathlib.Core.List.{List, [], _∷_}
 use mathlib.Core.Option.{Option, none, some}
-use Prim.Native.Nat.{ℕ}
+use Prim.Native.Nat.{ℕ, _≤_}
 use lib.ListN.{length}
-use lib.Dec.{eqb, leb}
 use Rattle.definition.specs.Tools.{Bytes, pick, eqs}
 use Rattle.definition.specs.Region.{Item, fetched, records, look}
 use Rattle.definition.specs.Codec.{Op, Put, Delete, reserved, laid}
@@ -59,15 +59,8 @@ pub data Does (A : Plain) : Call → Heard → Plain → Type 0 where
   scan-finished : {prefix output : Bytes} {most : ℕ} {is : List Item} → AllOf prefix A is
       → Does A (scanPrefix prefix most output) (listed (scanned End.Finished is) (laid (records is) output)) A
 
--- ---- the numbers: "an item fault (4 to 12, from an item call)"; and what every call may refuse with: never 13; 15 and 16 are a batch's
-unfoldable pub itemFault : Fault → Bool
-itemFault f = pick (leb 4 (number f)) (leb (number f) 12) false
-
-unfoldable pub outright : Fault → Bool
-outright f = pick (eqb (number f) 13) false (pick (eqb (number f) 15) false (pick (eqb (number f) 16) false true))
-
--- ---- `Step A c h B`: while the plain map is A the store, called c, may answer h, and the map is B from then on. Where an answer stands for A and for A
--- after the call, the call is in or out, and one of the two once for good: the next step starts from it.
+-- ---- `Step A c h B`: while the plain map is A the store, called c, may answer h, and the map is B from then on. Where the same answer may leave the
+-- map as it was or not, the call is in or out, and is one of the two once for good: the next step starts from there.
 pub data Step (A : Plain) : Call → Heard → Plain → Type 0 where
   -- Ok is in, and every successful get, contains and finished scan (and delete) equals the plain map
   ok : {c : Call} {h : Heard} {B : Plain} → Does A c h B → Step A c h B
@@ -75,21 +68,22 @@ pub data Step (A : Plain) : Call → Heard → Plain → Type 0 where
   committed : {list : Bytes} {B : Plain} → Does A (applyBatch list) (answered Ok) B → Step A (applyBatch list) (answered (Refused BatchCommitted)) B
   uncertain-in : {list : Bytes} {B : Plain} → Does A (applyBatch list) (answered Ok) B → Step A (applyBatch list) (answered (Refused CommitUncertain)) B
   uncertain-out : {list : Bytes} → Step A (applyBatch list) (answered (Refused CommitUncertain)) A
-  -- a put or delete answered with an item fault is in, or out
-  put-in : {key value : Bytes} {f : Fault} → itemFault f ≡ true → Step A (put key value) (answered (Refused f)) (after (Put key value) A)
-  delete-in : {key : Bytes} {f : Fault} → itemFault f ≡ true → Step A (delete key) (told (Truth.Refused f)) (after (Delete key) A)
-  -- as every other answer is out; a call that is not made changes nothing, and neither does a scan that stops before it finished
-  out : {c : Call} {h : Heard} {f : Fault} → refusalOf h ≡ some f → outright f ≡ true → Step A c h A
+  -- a put or delete answered with an item fault (4 to 12) is in or out: in by these, out by the next
+  put-in : {key value : Bytes} {f : Fault} → 4 ≤ number f → number f ≤ 12 → Step A (put key value) (answered (Refused f)) (after (Put key value) A)
+  delete-in : {key : Bytes} {f : Fault} → 4 ≤ number f → number f ≤ 12 → Step A (delete key) (told (Truth.Refused f)) (after (Delete key) A)
+  -- every other answer is out; 13 is never one, and 15 and 16 are a batch's alone
+  out : {c : Call} {h : Heard} {f : Fault} → refusalOf h ≡ some f → number f ≢ 13 → number f ≢ 15 → number f ≢ 16 → Step A c h A
+  -- a call that is not made changes nothing, nor does a scan that ends before it is finished
   unmade : {c : Call} → Step A c nothing A
   stopped : {c : Call} {n l : ℕ} {shown : Bytes} → Step A c (listed (record { end = End.Stopped; count = n; length = l }) shown) A
   no-room : {c : Call} {n l : ℕ} {shown : Bytes} → Step A c (listed (record { end = End.NoRoom; count = n; length = l }) shown) A
 
--- the calls of a run, each answered as the plain map allows that the calls before it left
+-- every call of a run is answered as the plain map allows that the calls before it left
 pub data Kept : Plain → List Call → Moment → Type 0 where
   end : {A : Plain} {m : Moment} → Kept A [] m
   then : {A : Plain} {c : Call} {cs : List Call} {m : Moment} (B : Plain) → Step A c (turn c m .heard) B → Kept B cs (turn c m .next) → Kept A (c ∷ cs) m
 
--- ---- A run starts with nothing mounted, on a region with no bookkeeping items: "those whose key begins with byte 0". The map has what the region has.
+-- ---- A run starts with nothing mounted, on a region with no bookkeeping items, "those whose key begins with byte 0". Its map has what the region has.
 abbrev pub plainOf : Moment → Plain
 plainOf m = λ k. look k (m .region)
 
