@@ -6,7 +6,7 @@ use mathlib.Core.Option.{Option, none, some}
 use Prim.Native.Nat.{ℕ}
 use lib.ListN.{replicate}
 use Rattle.definition.specs.Tools.{Bytes}
-use Rattle.definition.specs.Region.{Item, item, render}
+use Rattle.definition.specs.Region.{Item, item, fetched, render, look}
 use Rattle.definition.specs.Public.{state}
 use Rattle.definition.specs.declared.State.{State}
 use Rattle.definition.specs.declared.Fault.the-variants.{Driver, CommitUncertain}
@@ -19,7 +19,8 @@ use Rattle.definition.specs.declared.TruthAnswer.the-variants as Truth
 use Rattle.definition.specs.declared.ScanEnd.the-variants.{Finished}
 use Rattle.definition.proofs.Computes.{computes}
 use Rattle.definition.proofs.Image.{erased}
-use Rattle.promise.specs.Promise.{Call, rescript, mount, get, contains, put, applyBatch, scanPrefix, Heard, nothing, answered, told, got, listed, Moment, Turn, made, stateAfter, mounting, turn, Kept, noBookkeeping, Start, plainOf}
+use Rattle.promise.specs.Run.{Call, rescript, mount, get, contains, put, applyBatch, scanPrefix, Heard, nothing, answered, told, got, listed, Moment, Turn, made, stateAfter, mounting, turn}
+use Rattle.promise.specs.Promise.{Kept, Start, plainOf}
 use Rattle.promise.proofs.Promised.{promise}
 
 abbrev pub moment : List Item → Bytes → Option State → Moment
@@ -63,8 +64,8 @@ abbrev erasedStore : Moment
 erasedStore = record { region = replicate 8192 255; script = []; newest = none }
 
 start : Start erasedStore
-unfolding noBookkeeping
-start = record { unmounted = refl; plain = ap noBookkeeping (erased 8192 .1) }
+unfolding look fetched
+start = record { unmounted = refl; plain = λ k r. ap (fetched k) (erased 8192 .1) }
 
 -- what the promise says of it
 kept : Kept (plainOf erasedStore) run erasedStore

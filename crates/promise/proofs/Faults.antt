@@ -1,13 +1,14 @@
 -- Which faults a call can be refused with: a script brings item faults only, and every refusal but 15 and 16 means no change.
-use mathlib.Core.Path.{_≡_, refl, _∙_, subst}
-use mathlib.Core.Bool.{true, false, not}
+use mathlib.Core.Path.{_≡_, refl, ap, _∙_, subst}
+use mathlib.Core.Logic.{_≢_}
+use mathlib.Core.Bool.{Bool, true, false, not}
 use mathlib.Core.List.{List, [], _∷_}
 use mathlib.Core.Option.{Option, none, some}
 use Prim.Native.Nat.{ℕ, _+_, _%_, _≤_}
 use native.Mathlib.Omega.{arith}
 use lib.ListN.{length, getD}
 use lib.Dec.{eqb, leb, ltb}
-use borrow.Author.Tests.{leb-true, ne-eqb}
+use borrow.Author.Tests.{leb-true, eq-eqb, ne-eqb}
 use Rattle.definition.specs.Tools.{Bytes, pick}
 use Rattle.definition.specs.Codec.{Op, opKey, opValue, batchLimit, longKey, longValue, reserved, opFault}
 use Rattle.definition.specs.Script.{faultOf, byteFate, fate, cutCode}
@@ -15,11 +16,17 @@ use Rattle.definition.specs.Numbers.{number}
 use Rattle.definition.specs.Calls.{putFault, opsFault, batchFault, regionFault}
 use Rattle.definition.specs.declared.Step.{Step}
 use Rattle.definition.specs.declared.Fault.{Fault}
-use Rattle.definition.proofs.Choices.{pick-no, pick-to, both, opt-to}
+use Rattle.definition.proofs.Choices.{pick-yes, pick-to, both, opt-to, true≢false}
 use Rattle.definition.proofs.StandsFor.{none≢some}
 use Rattle.definition.proofs.Ensures.{Obeys}
 use Rattle.definition.proofs.Recovers.{Cause, by-fate, no-room}
-use Rattle.promise.specs.Promise.{itemFault, outright}
+
+-- "an item fault (4 to 12, from an item call)", and what means no change whatever the call, as tests
+unfoldable pub itemFault : Fault → Bool
+itemFault f = pick (leb 4 (number f)) (leb (number f) 12) false
+
+unfoldable pub outright : Fault → Bool
+outright f = pick (not (eqb (number f) 13)) (pick (not (eqb (number f) 15)) (not (eqb (number f) 16)) false) false
 
 abbrev pub ItemFault : Fault → Type 0
 ItemFault f = itemFault f ≡ true
@@ -27,20 +34,32 @@ ItemFault f = itemFault f ≡ true
 abbrev pub Outright : Fault → Type 0
 Outright f = outright f ≡ true
 
+pub item-range : (f : Fault) → ItemFault f → (4 ≤ number f) × (number f ≤ 12)
+unfolding itemFault
+item-range f e = let h = both (leb 4 (number f)) (leb (number f) 12) e in (leb-true _ _ (h .0), leb-true _ _ (h .1))
+
+apart : {a b : ℕ} → not (eqb a b) ≡ true → a ≢ b
+apart e q = true≢false e (ap not (eq-eqb _ _ q))
+
+pub outright-range : (f : Fault) → Outright f → (number f ≢ 13) × (number f ≢ 15) × (number f ≢ 16)
+unfolding outright
+outright-range f e =
+    let h = both (not (eqb (number f) 13)) _ e in
+    let k = both (not (eqb (number f) 15)) (not (eqb (number f) 16)) (h .1) in
+    (apart (h .0), apart (k .0), apart (k .1))
+
 pub item-outright : (f : Fault) → ItemFault f → Outright f
-unfolding itemFault outright
+unfolding outright
 item-outright f e =
-    let h = both (leb 4 (number f)) (leb (number f) 12) e in
-    let n : number f ≤ 12 = leb-true _ _ (h .1) in
+    let n : number f ≤ 12 = item-range f e .1 in
     let a : number f ≡ 13 → ⊥ = λ q. absurd (omega arith) in
     let b : number f ≡ 15 → ⊥ = λ q. absurd (omega arith) in
     let c : number f ≡ 16 → ⊥ = λ q. absurd (omega arith) in
-    pick-no _ _ (ne-eqb _ _ a) ∙ pick-no _ _ (ne-eqb _ _ b) ∙ pick-no _ _ (ne-eqb _ _ c)
+    pick-yes _ _ (ap not (ne-eqb _ _ a)) ∙ pick-yes _ _ (ap not (ne-eqb _ _ b)) ∙ ap not (ne-eqb _ _ c)
 
 pub item-not-13 : (f : Fault) → ItemFault f → eqb (number f) 13 ≡ false
-unfolding itemFault
 item-not-13 f e =
-    let n : number f ≤ 12 = leb-true _ _ (both (leb 4 (number f)) (leb (number f) 12) e .1) in
+    let n : number f ≤ 12 = item-range f e .1 in
     let a : number f ≡ 13 → ⊥ = λ q. absurd (omega arith) in
     ne-eqb _ _ a
 

@@ -31,7 +31,9 @@ use Rattle.definition.proofs.FlatLaws.{flat-laws}
 use Rattle.definition.proofs.Recovers.{by-fate, no-room}
 use Rattle.definition.proofs.Answers as Answers
 use Rattle.definition.proofs.Answers.{Never}
-use Rattle.promise.specs.Promise.{Plain, mount, contains, answered, told, Moment, made, mounting, turn, later, plainOf, Calm, Responds, ok, full, yes, no, full-told, LastSentence}
+use Rattle.promise.specs.Run.{mount, contains, answered, told, Moment, made, mounting, turn, later}
+use Rattle.promise.specs.Promise.{Plain, plainOf}
+use Rattle.promise.specs.Beside.{Calm, Responds, ok, full, yes, no, full-told, LastSentence}
 use Rattle.promise.proofs.AtBytes.{base, Standing, Whichever, Holds, whichever, image-good, on-public}
 use Rattle.promise.proofs.Keeps.{run-holds}
 use Rattle.promise.proofs.Promised.{started, lent-whole}

@@ -15,7 +15,8 @@ use Rattle.definition.proofs.Codecs.{rising-irreflexive, rising-transitive}
 use Rattle.definition.proofs.Items.{key-of, has-its-key}
 use Rattle.definition.proofs.StandsFor.{none≢some}
 use Rattle.definition.proofs.Listings.{Rising, found-after, not-beyond}
-use Rattle.promise.specs.Promise.{Plain, rises, AllOf, FirstOf}
+use Rattle.promise.specs.Promise.{Plain, rises, AllOf}
+use Rattle.promise.specs.Beside.{FirstOf}
 use Rattle.promise.proofs.AtBytes.{rising-order}
 
 abbrev Rises : List Item → Type 0

@@ -7,8 +7,9 @@ use Prim.Native.Nat.{ℕ}
 use native.Mathlib.Omega.{arith}
 use lib.ListN.{length, take, replicate}
 use Rattle.definition.specs.Tools.{Bytes}
-use Rattle.definition.specs.Region.{Item, item, render, items}
-use Rattle.definition.specs.Codec.{laid}
+use Rattle.definition.specs.Region.{Item, item, render, look}
+use Rattle.definition.specs.Codec.{laid, markerKey}
+use Rattle.definition.specs.Numbers.{getRefusal}
 use Rattle.definition.specs.Public.{outcome, state}
 use Rattle.definition.specs.Public as Public
 use Rattle.definition.specs.declared.Fault.the-variants.{JournalCorrupted, BatchCommitted, CommitUncertain, FullStorage}
@@ -19,7 +20,9 @@ use Rattle.definition.specs.declared.GetAnswer.{GetAnswer}
 use Rattle.definition.specs.declared.GetAnswer.the-variants as Get
 use Rattle.definition.specs.declared.TruthAnswer.the-variants as Truth
 use Rattle.definition.proofs.Computes.{computes}
-use Rattle.promise.specs.Promise.{Plain, mount, get, applyBatch, answered, got, Step, noBookkeeping}
+use Rattle.definition.proofs.StandsFor.{none≢some}
+use Rattle.promise.specs.Run.{mount, get, answered, got, refusalOf}
+use Rattle.promise.specs.Promise.{Plain, Step}
 use Rattle.promise.specs.Promise as P
 use Rattle.promise.proofs.Example.{a, holds}
 
@@ -87,12 +90,13 @@ unfolding computes
 older-after = refl
 
 get-keeps : {A B : Plain} {key output shown : Bytes} {g : GetAnswer} → Step A (get key output) (got g shown) B → B ≡ A
-get-keeps (P.get-found e) = refl
-get-keeps (P.get-absent e) = refl
-get-keeps (P.get-refused e) = refl
+get-keeps (P.ok (P.get-found e)) = refl
+get-keeps (P.ok (P.get-absent e)) = refl
+get-keeps (P.out r x y z) = refl
 
 mount-keeps : {A B : Plain} {start at : ℕ} → Step A (mount start at) (answered Ok) B → B ≡ A
-mount-keeps P.mounted = refl
+mount-keeps (P.ok P.mounted) = refl
+mount-keeps (P.out r x y z) = refl
 
 record Value (A : Plain) (key output shown : Bytes) (n : ℕ) : Type 0 where
   value : Bytes
@@ -101,7 +105,9 @@ record Value (A : Plain) (key output shown : Bytes) (n : ℕ) : Type 0 where
   seen : shown ≡ laid value output
 
 get-value : {A B : Plain} {key output shown : Bytes} {n : ℕ} → Step A (get key output) (got (Get.Found n) shown) B → Value A key output shown n
-get-value (P.get-found {v = v} e) = record { value = v; is = e; size = refl; seen = refl }
+unfolding refusalOf getRefusal
+get-value (P.ok (P.get-found {v = v} e)) = record { value = v; is = e; size = refl; seen = refl }
+get-value (P.out r x y z) = absurd (none≢some r)
 
 one-byte : {o : Option Bytes} {x : ℕ} (v : Bytes) → o ≡ some v → 1 ≡ length v → x ∷ [] ≡ laid v (0 ∷ []) → o ≡ some (x ∷ [])
 unfolding laid
@@ -125,8 +131,8 @@ no-map {A} p q r =
 abbrev foreign : List Item
 foreign = markerOf (2 ∷ 0x58 ∷ 0xfd ∷ 0xa7 ∷ []) ∷ []
 
-foreign-start : noBookkeeping (items (image foreign)) ≡ false
-unfolding computes noBookkeeping
+foreign-start : look markerKey (image foreign) ≡ some (2 ∷ 0x58 ∷ 0xfd ∷ 0xa7 ∷ [])
+unfolding computes
 foreign-start = refl
 
 foreign-marker : Public.mount (image foreign) [] 0 0 ≡ outcome (Refused (JournalCorrupted (MarkerCount 600))) (state Pending 0 false) 1 (image foreign) []

@@ -1,1 +1,3 @@
+pub mod Run
 pub mod Promise
+pub mod Beside
