@@ -125,9 +125,9 @@ module _ (ops : List Op) {n : ℕ} (en : n ≡ length ops) where
       passed : (h : Health) → batch flat ops h ≡ guarded ops h
       passed h = some-ops ops h (λ l. z (en ∙ l)) ∙ opt-none _ _ batch-fine
 
-      module _ (h : Health) {cl : Bool} (el : cl ≡ isClean h) {s script : Bytes} {t : Step} {b : Bytes} {v : Converged} (x : Gate (not cl) h s script t b v) where
+      module _ (h : Health) {needed : Bool} (ed : needed ≡ not (isClean h)) {s script : Bytes} {t : Step} {b : Bytes} {v : Converged} (x : Gate needed h s script t b v) where
         reached : Gate (not (isClean h)) h s script t b v
-        reached = subst (λ (c : Bool). Gate (not c) h s script t b v) el x
+        reached = subst (λ (c : Bool). Gate c h s script t b v) ed x
 
         pub batch-unready : {f : Fault} {t1 : Step} {w : Failure} {u : Reply} → v ≡ G.Failed f t1 → w ≡ unreadyOf v → u ≡ replyOf (Refused (w .fault)) h (w .step)
             → Says (batch flat ops h) s script t b (u .answer) (u .state) (u .calls) []

@@ -202,7 +202,7 @@ fn batch(
     if let Checked::Refused(fault) = check_batch(list, count) {
         return gate::reply(Answer::Refused(fault), health, step);
     }
-    let needed = !gate::is_clean(health);
+    let needed = gate::is_unclean(health);
     let converged = gate::converge(region, script, needed, health, step);
     let Converged::Ready(_, next) = converged else {
         return gate::refused(gate::why(converged), health);

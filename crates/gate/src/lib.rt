@@ -11,7 +11,7 @@ use definition::TruthReply;
 use items::Failure;
 use items::ItemAnswer;
 ghost use mathlib.Core.Path.{_≡_};
-ghost use mathlib.Core.Bool.{true};
+ghost use mathlib.Core.Bool.{true, not};
 ghost use Rattle.definition.specs.Calls;
 ghost use Rattle.definition.specs.Region.{good};
 ghost use Rattle.definition.specs.Public;
@@ -23,6 +23,7 @@ pub enum Converged {
     Failed(Fault, Step),
 }
 
+// Every other call that reads recovers only where a commit may stand.
 pub fn is_pending(health: Health) -> bool
     ensures { λ r. ⌜ r ≡ Calls.isPending health ⌝ }
 {
@@ -33,13 +34,14 @@ pub fn is_pending(health: Health) -> bool
     }
 }
 
-pub fn is_clean(health: Health) -> bool
-    ensures { λ r. ⌜ r ≡ Calls.isClean health ⌝ }
+// A batch journals over nothing that an earlier one left.
+pub fn is_unclean(health: Health) -> bool
+    ensures { λ r. ⌜ r ≡ not (Calls.isClean health) ⌝ }
 {
     match health {
-        Health::Clean => true,
-        Health::Debris => false,
-        Health::Pending => false,
+        Health::Debris => true,
+        Health::Pending => true,
+        Health::Clean => false,
     }
 }
 

@@ -18,7 +18,7 @@ ghost use Rattle.definition.specs.Region.{good, recordOf};
 ghost use Rattle.definition.specs.Scan;
 ghost use Rattle.definition.specs.Scan.{rising, insert};
 ghost use Rattle.codec.specs.Forms.{checkedOf};
-ghost use Rattle.region.specs.Changes.{written};
+ghost use Rattle.slices.specs.Written.{written};
 ghost use Rattle.scan.specs.Forms.{put, filled, Parts, placeKey, placeItem, Held, Lasts, LastHeld, lastKey, windowItems, Sane, Holds, unmetAs, Passes, refusedAs, Scans};
 
 // How many places a window has.

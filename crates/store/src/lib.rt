@@ -298,10 +298,10 @@ fn delete_found(
     ensures { λ r. ⌜ Says (deleteFound flat (now (key .entry)) health) (now (region .entry)) (now (script .entry)) step (now (region .exit)) (r .answer) (r .state) (r .calls) [] ⌝ }
 {
     let removed = items::remove(region, script, key, step);
-    let ItemAnswer::Done(next) = removed else {
+    let ItemAnswer::Done(gone) = removed else {
         return gate::truth_refused(items::why(removed), health);
     };
-    gate::truth(TruthAnswer::Yes, health, next)
+    gate::truth(TruthAnswer::Yes, health, gone)
 }
 
 fn delete_key(

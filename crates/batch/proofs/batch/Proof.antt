@@ -25,8 +25,8 @@ returns-2 c = batch-refused _ (c .before .before .before .before .before .before
 enum-told : tie.Need-enum-told
 enum-told c = search needs
 
-is-clean-requires : tie.Need-is-clean-requires
-is-clean-requires c κs = search needs
+is-unclean-requires : tie.Need-is-unclean-requires
+is-unclean-requires c κs = search needs
 
 converge-requires : tie.Need-converge-requires
 converge-requires c κs = search needs
@@ -47,7 +47,7 @@ same-length : tie.Need-same-length
 same-length c = search needs
 
 returns-3 : tie.Need-returns-3
-returns-3 c = batch-unready _ (c .before .before .before .before .before .before .before .before .before .before .before .before .before .before .before .before .pre .1 .1) (c .before .before .before .before .before .before .before .before .before .before .before .before .if1 .left) (c .before .before .before .before .before .before .before .before .before .before .before .check-batch .ensures) (c .before .before .before .before .before .before .before .before .before .enum-told .given .1) _ (c .before .before .before .before .before .before .before .before .is-clean .ensures) (c .before .before .before .before .before .before .converge .ensures) (c .before .before .enum-told2 .given .1) (c .before .why .ensures) (c .refused .ensures)
+returns-3 c = batch-unready _ (c .before .before .before .before .before .before .before .before .before .before .before .before .before .before .before .before .pre .1 .1) (c .before .before .before .before .before .before .before .before .before .before .before .before .if1 .left) (c .before .before .before .before .before .before .before .before .before .before .before .check-batch .ensures) (c .before .before .before .before .before .before .before .before .before .enum-told .given .1) _ (c .before .before .before .before .before .before .before .before .is-unclean .ensures) (c .before .before .before .before .before .before .converge .ensures) (c .before .before .enum-told2 .given .1) (c .before .why .ensures) (c .refused .ensures)
 
 cast-journal-all : tie.Need-cast-journal-all
 cast-journal-all c = let h = tested (c .before .before .before .before .before .before .before .before .before .before .before .before .before .before .before .before .pre .1 .0) (batch-fine _ (c .before .before .before .before .before .before .before .before .before .before .before .before .before .before .before .before .pre .1 .1) (c .before .before .before .before .before .before .before .before .before .before .before .before .if1 .left) (c .before .before .before .before .before .before .before .before .before .before .before .check-batch .ensures) (c .before .before .before .before .before .before .before .before .before .enum-told .given .1)) in search needs
@@ -59,7 +59,7 @@ same-length-2 : tie.Need-same-length-2
 same-length-2 c = search needs
 
 returns-4 : tie.Need-returns-4
-returns-4 c = batch-ready _ (c .before .before .before .before .before .before .before .before .before .before .before .before .before .before .before .before .before .before .before .pre .1 .1) (c .before .before .before .before .before .before .before .before .before .before .before .before .before .before .before .if1 .left) (c .before .before .before .before .before .before .before .before .before .before .before .before .before .before .check-batch .ensures) (c .before .before .before .before .before .before .before .before .before .before .before .before .enum-told .given .1) _ (c .before .before .before .before .before .before .before .before .before .before .before .is-clean .ensures) (c .before .before .before .before .before .before .before .before .before .converge .ensures) (c .before .before .before .before .before .converged .given .1) (c .before .before .journal-all .ensures)
+returns-4 c = batch-ready _ (c .before .before .before .before .before .before .before .before .before .before .before .before .before .before .before .before .before .before .before .pre .1 .1) (c .before .before .before .before .before .before .before .before .before .before .before .before .before .before .before .if1 .left) (c .before .before .before .before .before .before .before .before .before .before .before .before .before .before .check-batch .ensures) (c .before .before .before .before .before .before .before .before .before .before .before .before .enum-told .given .1) _ (c .before .before .before .before .before .before .before .before .before .before .before .is-unclean .ensures) (c .before .before .before .before .before .before .before .before .before .converge .ensures) (c .before .before .before .before .before .converged .given .1) (c .before .before .journal-all .ensures)
 
 pub batch-spec : {M : Type 1} → statement M
 batch-spec =
@@ -72,7 +72,7 @@ batch-spec =
     reply-requires-2
     returns-2
     enum-told
-    is-clean-requires
+    is-unclean-requires
     converge-requires
     enum-known-converged
     enum-told-2
