@@ -1,5 +1,5 @@
 // Document 01, "Codecs": keys and their order, the marker, the journal key and the journal entry. Every function takes any input and
-// equals its definition in `definition/specs/Codec`; `copy_at` alone, a step of theirs, asks that the copied bytes fit.
+// equals its definition in `definition/specs/Codec`.
 use definition::CapacityKind;
 use definition::CodecAnswer;
 use definition::Entry;
