@@ -116,7 +116,7 @@ fn apply(region: &mut [u8], script: &[u8], list: &[u8], step: Step) -> ItemAnswe
         let Next::Op(kind, klen, vlen, behind) = oplist::op_at(list, at) else {
             return journal::remove_marker(region, script, step);
         };
-        let landed = journal::land(
+        let landed = recovery::land(
             region,
             script,
             index,

@@ -1,5 +1,5 @@
--- One operation that passed the batch's tests: its entry fits and is what is stored, and landing it does it and removes its journal item.
-use mathlib.Core.Path.{_≡_, sym, ap, ap₂, _∙_, subst}
+-- One operation that passed the batch's tests: its entry fits and is what is stored, and it may be done.
+use mathlib.Core.Path.{_≡_, refl, sym, ap, ap₂, _∙_}
 use mathlib.Core.Bool.{true}
 use mathlib.Core.Option.{none}
 use Prim.Native.Nat.{ℕ, _≤_}
@@ -10,8 +10,7 @@ use borrow.Author.Tests.{le-ltb, ltb-false}
 use Rattle.definition.specs.Tools.{Bytes}
 use Rattle.definition.specs.Codec.{Op, Put, Delete, opKey, opValue, longKey, longValue, opFault, encode, encodeInto, laid, laidIf, be16, journalKey}
 use Rattle.definition.specs.Region.{item, allowed}
-use Rattle.definition.specs.Program.{flat, store, remove}
-use Rattle.definition.specs.Recovery.{act, land}
+use Rattle.definition.specs.Program.{flat, store}
 use Rattle.definition.proofs.Choices.{pick-no, opt-none}
 use Rattle.definition.proofs.Codecs.{fine}
 use Rattle.definition.proofs.Records.{allowed-yes}
@@ -22,11 +21,10 @@ use Rattle.definition.specs.declared.CodecAnswer.the-variants.{Len, Refused}
 use Rattle.codec.specs.declared.OpKind.{OpKind}
 use Rattle.codec.specs.declared.OpKind.the-variants as K
 use Rattle.codec.specs.Forms.{opAs, Encodes}
-use Rattle.recovery.proofs.Entries.{act-put, act-delete}
+use Rattle.recovery.specs.Forms.{opFits}
 use Rattle.items.specs.declared.ItemAnswer.{ItemAnswer}
-use Rattle.items.specs.declared.ItemAnswer.the-variants.{Done, Failed}
 use Rattle.items.specs.Forms.{Ran}
-use Rattle.items.proofs.Along.{ran-as, seq-failed, seq-on}
+use Rattle.items.proofs.Along.{ran-as}
 
 -- ---- its lengths
 
@@ -84,27 +82,7 @@ module _ (op : Op) (e : opFault op ≡ none) {out after : Bytes} {r : CodecAnswe
 
 -- ---- what it does
 
-module _ {kind : OpKind} (k v : Bytes) where
-  pub put-allowed : kind ≡ K.Put → opFault (opAs kind k v) ≡ none → allowed (length k) (length v) ≡ true
-  unfolding opAs opKey opValue
-  put-allowed q e =
-      let s = short (Put k v) (subst (λ (x : OpKind). opFault (opAs x k v) ≡ none) q e) in
-      allowed-yes (length k) (length v) (s .key) (omega arith)
-
-  module _ {s script b : Bytes} {t : Step} {r : ItemAnswer} where
-    pub acts-put : kind ≡ K.Put → Ran (store flat (item k v)) s script t b r → Ran (act flat (opAs kind k v)) s script t b r
-    unfolding opAs
-    acts-put q x = ran-as (ap (λ (o : OpKind). act flat (opAs o k v)) q ∙ act-put k v) x
-
-    pub acts-delete : kind ≡ K.Delete → Ran (remove flat k) s script t b r → Ran (act flat (opAs kind k v)) s script t b r
-    unfolding opAs
-    acts-delete q x = ran-as (ap (λ (o : OpKind). act flat (opAs o k v)) q ∙ act-delete k) x
-
-module _ (i : ℕ) (op : Op) {s script b : Bytes} {t : Step} {r : ItemAnswer} (h : Ran (act flat op) s script t b r) where
-  pub land-failed : {f : Fault} {t1 : Step} → r ≡ Failed f t1 → Ran (land flat i op) s script t b r
-  unfolding land
-  land-failed e = seq-failed (λ x. remove flat (journalKey i)) h e
-
-  pub land-on : {t1 : Step} {j b2 : Bytes} {r2 : ItemAnswer} → r ≡ Done t1 → j ≡ journalKey i → Ran (remove flat j) b script t1 b2 r2 → Ran (land flat i op) s script t b2 r2
-  unfolding land
-  land-on e ej n = seq-on (λ x. remove flat (journalKey i)) h e (ran-as (ap (remove flat) (sym ej)) n)
+pub op-fits : (kind : OpKind) (k v : Bytes) → opFault (opAs kind k v) ≡ none → opFits kind k v ≡ true
+unfolding opFits opAs opKey opValue
+op-fits K.Put k v e = let s = short (Put k v) e in allowed-yes (length k) (length v) (s .key) (omega arith)
+op-fits K.Delete k v e = refl

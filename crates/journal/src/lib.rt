@@ -55,47 +55,6 @@ pub fn write_entry(
     items::store(region, script, &journal_key, &entry[..n], step)
 }
 
-// What the operation does.
-fn act(
-    region: &mut [u8],
-    script: &[u8],
-    kind: OpKind,
-    key: &[u8],
-    value: &[u8],
-    step: Step,
-) -> ItemAnswer
-    requires { ⌜ good (now region) ≡ true ⌝ }
-    requires { ⌜ opFault (opAs kind (now key) (now value)) ≡ none ⌝ }
-    ensures { λ r. ⌜ Ran (Recovery.act flat (opAs kind (now (key .entry)) (now (value .entry)))) (now (region .entry)) (now (script .entry)) step (now (region .exit)) r ⌝ }
-{
-    match kind {
-        OpKind::Put => items::store(region, script, key, value, step),
-        OpKind::Delete => items::remove(region, script, key, step),
-    }
-}
-
-// Does the operation, and removes its journal item after it: a cut in between does it twice, never not at all.
-pub fn land(
-    region: &mut [u8],
-    script: &[u8],
-    index: u16,
-    kind: OpKind,
-    key: &[u8],
-    value: &[u8],
-    step: Step,
-) -> ItemAnswer
-    requires { ⌜ good (now region) ≡ true ⌝ }
-    requires { ⌜ opFault (opAs kind (now key) (now value)) ≡ none ⌝ }
-    ensures { λ r. ⌜ Ran (Recovery.land flat index (opAs kind (now (key .entry)) (now (value .entry)))) (now (region .entry)) (now (script .entry)) step (now (region .exit)) r ⌝ }
-{
-    let acted = act(region, script, kind, key, value, step);
-    let ItemAnswer::Done(next) = acted else {
-        return acted;
-    };
-    let journal_key = codec::journal_key(index);
-    items::remove(region, script, &journal_key, next)
-}
-
 // ---- the marker
 
 pub fn write_marker(region: &mut [u8], script: &[u8], count: u16, step: Step) -> ItemAnswer

@@ -1,8 +1,7 @@
--- What each way out of the functions over one journal entry says.
+-- What each way out of the functions over one operation and over one journal entry says.
 use mathlib.Core.Path.{_≡_, refl, sym, ap, ap₂, _∙_, subst}
-use mathlib.Core.Bool.{Bool, true, false}
-use mathlib.Core.Option.{Option, none, some}
-use mathlib.Core.List.{List, [], _∷_, _++_}
+use mathlib.Core.Bool.{true}
+use mathlib.Core.Option.{some}
 use Prim.Native.Nat.{ℕ, _+_, _-_, _≤_}
 use native.Mathlib.Omega.{arith}
 use lib.ListN.{length, take, drop, length-take, length-drop}
@@ -10,7 +9,7 @@ use lib.Seq.{take-at, length-take-le}
 use Rattle.definition.specs.Tools.{Bytes, opt}
 use Rattle.definition.specs.Codec.{Op, Put, Delete, journalKey, entryOf, keyPart, valuePart, opOf, decode, laid}
 use Rattle.definition.specs.Region.{item, good, allowed}
-use Rattle.definition.specs.Program.{Prog, ret, err, onP, _▷_, flat, store, remove, fetch}
+use Rattle.definition.specs.Program.{ret, flat, store, remove}
 use Rattle.definition.specs.Recovery.{act, land, redoEntry, redo}
 use Rattle.definition.proofs.Choices.{opt-none, opt-some}
 use Rattle.definition.proofs.Records.{allowed-yes}
@@ -20,9 +19,12 @@ use Rattle.definition.specs.declared.Fault.the-variants.{JournalCorrupted}
 use Rattle.definition.specs.declared.JournalPart.the-variants as J
 use Rattle.definition.specs.declared.Entry.{Entry}
 use Rattle.definition.specs.declared.Entry.the-variants as E
-use Rattle.codec.specs.Forms.{EntryReads}
-use Rattle.codec.proofs.Laws.{put-inside, delete-inside}
-use Rattle.region.specs.Places.{spotted, Inside}
+use Rattle.codec.specs.declared.OpKind.{OpKind}
+use Rattle.codec.specs.declared.OpKind.the-variants as K
+use Rattle.codec.specs.Forms.{EntryReads, opAs}
+use Rattle.recovery.specs.Forms.{opFits}
+use Rattle.codec.proofs.Laws.{put-inside}
+use Rattle.region.specs.Places.{spotted}
 use Rattle.region.specs.declared.Spot.{Spot}
 use Rattle.region.specs.declared.Spot.the-variants.{At, Nothing}
 use Rattle.items.specs.declared.ItemAnswer.{ItemAnswer}
@@ -30,7 +32,7 @@ use Rattle.items.specs.declared.ItemAnswer.the-variants.{Done, Failed}
 use Rattle.items.specs.declared.FetchAnswer.{FetchAnswer}
 use Rattle.items.specs.declared.FetchAnswer.the-variants.{Got, Missed}
 use Rattle.items.specs.Forms.{Ran, Fetches, unfetchedOf}
-use Rattle.items.proofs.Along.{ran-as, runs-ran, runs-err, runs-ret, done-ran, failed-ran, seq-failed, seq-on, fetch-seq-failed, fetch-seq-on}
+use Rattle.items.proofs.Along.{ran-as, runs-err, runs-ret, done-ran, failed-ran, seq-failed, seq-on, fetch-seq-failed, fetch-seq-on}
 
 -- ---- a copy
 
@@ -45,41 +47,60 @@ copied-length s e at n h w =
     let l : n ≤ length (drop at s) = simp length-drop (omega arith) in
     sym (ap length w ∙ length-take-le n (drop at s) l)
 
--- ---- an entry's operation
+-- ---- one operation: it is done, and its journal item is removed after it, or one of the two failed
 
-module _ (i : ℕ) (v : Bytes) where
-  as-op : {op : Op} → decode v ≡ some op → redoEntry flat i v ≡ land flat i op
-  unfolding redoEntry
-  as-op q = opt-some _ _ q
+module _ {kind : OpKind} (k v : Bytes) where
+  pub put-fits : kind ≡ K.Put → opFits kind k v ≡ true → allowed (length k) (length v) ≡ true
+  unfolding opFits
+  put-fits q e = sym (ap (λ (o : OpKind). opFits o k v) q) ∙ e
 
-  pub entry-corrupt : {e : Entry} → EntryReads v e → e ≡ E.Corrupt → {s script : Bytes} {t : Step} → good s ≡ true
+  module _ {s script b : Bytes} {t : Step} {r : ItemAnswer} where
+    pub acts-put : kind ≡ K.Put → Ran (store flat (item k v)) s script t b r → Ran (act flat (opAs kind k v)) s script t b r
+    unfolding opAs act
+    acts-put q x = ran-as (ap (λ (o : OpKind). act flat (opAs o k v)) q) x
+
+    pub acts-delete : kind ≡ K.Delete → Ran (remove flat k) s script t b r → Ran (act flat (opAs kind k v)) s script t b r
+    unfolding opAs act
+    acts-delete q x = ran-as (ap (λ (o : OpKind). act flat (opAs o k v)) q) x
+
+module _ (i : ℕ) (op : Op) {s script b : Bytes} {t : Step} {r : ItemAnswer} (h : Ran (act flat op) s script t b r) where
+  pub land-failed : {f : Fault} {t1 : Step} → r ≡ Failed f t1 → Ran (land flat i op) s script t b r
+  unfolding land
+  land-failed e = seq-failed (λ x. remove flat (journalKey i)) h e
+
+  pub land-on : {t1 : Step} {j b2 : Bytes} {r2 : ItemAnswer} → r ≡ Done t1 → j ≡ journalKey i → Ran (remove flat j) b script t1 b2 r2 → Ran (land flat i op) s script t b2 r2
+  unfolding land
+  land-on e ej n = seq-on (λ x. remove flat (journalKey i)) h e (ran-as (ap (remove flat) (sym ej)) n)
+
+-- ---- what an entry says
+
+module _ (i : ℕ) (v : Bytes) {e : Entry} (h : EntryReads v e) where
+  pub entry-corrupt : e ≡ E.Corrupt → {s script : Bytes} {t : Step} → good s ≡ true
       → Ran (redoEntry flat i v) s script t s (Failed (JournalCorrupted (J.Entry i)) t)
   unfolding redoEntry decode opOf
-  entry-corrupt h q g = ran-as (opt-none _ _ (ap (λ e. opOf e v) (sym (h .is) ∙ q))) (failed-ran (runs-err g))
+  entry-corrupt q g = ran-as (opt-none _ _ (ap (λ e. opOf e v) (sym (h .is) ∙ q))) (failed-ran (runs-err g))
 
-  -- the operation was done, and its entry is removed after it, or one of the two failed
-  module _ {op : Op} (d : decode v ≡ some op) {p : Prog Bytes (Unit {0})} (ep : act flat op ≡ p)
-      {s script b : Bytes} {t : Step} {r : ItemAnswer} (h : Ran p s script t b r) where
-    pub land-failed : {f : Fault} {t1 : Step} → r ≡ Failed f t1 → Ran (redoEntry flat i v) s script t b r
-    unfolding land
-    land-failed e = ran-as (as-op d ∙ ap (λ p. p ▷ λ x. remove flat (journalKey i)) ep) (seq-failed _ h e)
+  module _ {n : ℕ} {k x : Bytes} (ek : k ≡ keyPart (entryOf v) v) (ex : x ≡ valuePart (entryOf v) v) {s script b : Bytes} {t : Step} {r : ItemAnswer} where
+    pub entry-put : e ≡ E.Put n → Ran (land flat i (opAs K.Put k x)) s script t b r → Ran (redoEntry flat i v) s script t b r
+    unfolding redoEntry decode opOf keyPart valuePart opAs
+    entry-put q y =
+        let z : entryOf v ≡ E.Put n = sym (h .is) ∙ q in
+        let d : decode v ≡ some (Put k x) =
+        ap (λ e. opOf e v) z ∙ ap₂ (λ a b. some (Put a b)) (ap (λ e. keyPart e v) (sym z) ∙ sym ek) (ap (λ e. valuePart e v) (sym z) ∙ sym ex) in
+        ran-as (opt-some _ _ d) y
 
-    pub land-on : {t1 : Step} {j b2 : Bytes} {r2 : ItemAnswer} → r ≡ Done t1 → j ≡ journalKey i → Ran (remove flat j) b script t1 b2 r2
-        → Ran (redoEntry flat i v) s script t b2 r2
-    unfolding land
-    land-on e ej n = ran-as (as-op d ∙ ap (λ p. p ▷ λ x. remove flat (journalKey i)) ep) (seq-on (λ x. remove flat (journalKey i)) h e (ran-as (ap (remove flat) (sym ej)) n))
+    pub entry-delete : e ≡ E.Delete n → Ran (land flat i (opAs K.Delete k x)) s script t b r → Ran (redoEntry flat i v) s script t b r
+    unfolding redoEntry decode opOf keyPart opAs
+    entry-delete q y =
+        let z : entryOf v ≡ E.Delete n = sym (h .is) ∙ q in
+        let d : decode v ≡ some (Delete k) = ap (λ e. opOf e v) z ∙ ap (λ a. some (Delete a)) (ap (λ e. keyPart e v) (sym z) ∙ sym ek) in
+        ran-as (opt-some _ _ d) y
 
+-- what a put's entry says may be stored, and a delete's asks nothing
 module _ (v : Bytes) {e : Entry} (h : EntryReads v e) {n : ℕ} {k x : Bytes} (ek : k ≡ keyPart (entryOf v) v) (ex : x ≡ valuePart (entryOf v) v) where
-  pub decoded-put : e ≡ E.Put n → decode v ≡ some (Put k x)
-  unfolding decode opOf keyPart valuePart
-  decoded-put q =
-      let z : entryOf v ≡ E.Put n = sym (h .is) ∙ q in
-      ap (λ e. opOf e v) z ∙ ap₂ (λ a b. some (Put a b)) (ap (λ e. keyPart e v) (sym z) ∙ sym ek) (ap (λ e. valuePart e v) (sym z) ∙ sym ex)
-
-  -- what a put's entry says may be stored
-  pub put-allowed : e ≡ E.Put n → allowed (length k) (length x) ≡ true
-  unfolding keyPart valuePart
-  put-allowed q =
+  pub entry-fits : e ≡ E.Put n → opFits K.Put k x ≡ true
+  unfolding opFits keyPart valuePart
+  entry-fits q =
       let z : entryOf v ≡ E.Put n = sym (h .is) ∙ q in
       let b = put-inside v h q in
       let lk : length k ≡ length (take n (drop 2 v)) = ap length (ek ∙ ap (λ e. keyPart e v) z) in
@@ -87,19 +108,9 @@ module _ (v : Bytes) {e : Entry} (h : EntryReads v e) {n : ℕ} {k x : Bytes} (e
       let a : length k ≤ 96 = omega (arith, length-take n (drop 2 v)) in
       allowed-yes (length k) (length x) a (omega (arith, length-take n (drop 2 v), length-drop (2 + n) v))
 
-pub decoded-delete : (v : Bytes) {e : Entry} → EntryReads v e → {n : ℕ} {k : Bytes} → k ≡ keyPart (entryOf v) v → e ≡ E.Delete n → decode v ≡ some (Delete k)
-unfolding decode opOf keyPart
-decoded-delete v {e} h {n} {k} ek q =
-    let z : entryOf v ≡ E.Delete n = sym (h .is) ∙ q in
-    ap (λ e. opOf e v) z ∙ ap (λ a. some (Delete a)) (ap (λ e. keyPart e v) (sym z) ∙ sym ek)
-
-pub act-put : (k x : Bytes) → act flat (Put k x) ≡ store flat (item k x)
-unfolding act
-act-put k x = refl
-
-pub act-delete : (k : Bytes) → act flat (Delete k) ≡ remove flat k
-unfolding act
-act-delete k = refl
+pub delete-fits : (k x : Bytes) → opFits K.Delete k x ≡ true
+unfolding opFits
+delete-fits k x = refl
 
 -- ---- one journal entry, fetched
 

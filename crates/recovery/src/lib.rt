@@ -1,4 +1,5 @@
 // Document 01, "Recovery and health": a committed batch is finished from its journal, and what is left of any other is dropped.
+use codec::OpKind;
 use definition::Entry;
 use definition::Fault;
 use definition::JournalPart;
@@ -17,8 +18,9 @@ ghost use Rattle.definition.specs.Region.{good, items};
 ghost use Rattle.definition.specs.Program.{flat};
 ghost use Rattle.definition.specs.Recovery;
 ghost use Rattle.definition.specs.Recovery.{redoEntry, iterate, dropEach, journalKeys, tooMany, recoverBy};
-ghost use Rattle.codec.specs.Forms.{Short};
+ghost use Rattle.codec.specs.Forms.{Short, opAs};
 ghost use Rattle.items.specs.Forms.{Ran};
+ghost use Rattle.recovery.specs.Forms.{opFits};
 
 // Iterates all items: a call opens, one is for each, one more says that there is none.
 fn iterate_all(region: &[u8], script: &[u8], step: Step) -> ItemAnswer
@@ -54,33 +56,59 @@ fn copied(region: &[u8], at: usize, len: usize) -> [u8; 482]
     bytes
 }
 
-// Does what a journal entry says, and removes the entry after it: a cut in between does it twice, never not at all.
+// ---- one operation of a batch, from its list or from its journal entry
+
+// What the operation does.
+fn act(
+    region: &mut [u8],
+    script: &[u8],
+    kind: OpKind,
+    key: &[u8],
+    value: &[u8],
+    step: Step,
+) -> ItemAnswer
+    requires { ⌜ good (now region) ≡ true ⌝ }
+    requires { ⌜ opFits kind (now key) (now value) ≡ true ⌝ }
+    ensures { λ r. ⌜ Ran (Recovery.act flat (opAs kind (now (key .entry)) (now (value .entry)))) (now (region .entry)) (now (script .entry)) step (now (region .exit)) r ⌝ }
+{
+    match kind {
+        OpKind::Put => items::store(region, script, key, value, step),
+        OpKind::Delete => items::remove(region, script, key, step),
+    }
+}
+
+// Does the operation, and removes its journal item after it: a cut in between does it twice, never not at all.
+pub fn land(
+    region: &mut [u8],
+    script: &[u8],
+    index: u16,
+    kind: OpKind,
+    key: &[u8],
+    value: &[u8],
+    step: Step,
+) -> ItemAnswer
+    requires { ⌜ good (now region) ≡ true ⌝ }
+    requires { ⌜ opFits kind (now key) (now value) ≡ true ⌝ }
+    ensures { λ r. ⌜ Ran (Recovery.land flat index (opAs kind (now (key .entry)) (now (value .entry)))) (now (region .entry)) (now (script .entry)) step (now (region .exit)) r ⌝ }
+{
+    let acted = act(region, script, kind, key, value, step);
+    let ItemAnswer::Done(next) = acted else {
+        return acted;
+    };
+    let journal_key = codec::journal_key(index);
+    items::remove(region, script, &journal_key, next)
+}
+
+// Does what a journal entry says.
 fn redo_entry(region: &mut [u8], script: &[u8], index: u16, entry: &[u8], step: Step) -> ItemAnswer
     requires { ⌜ good (now region) ≡ true ⌝ }
     ensures { λ r. ⌜ Ran (redoEntry flat index (now (entry .entry))) (now (region .entry)) (now (script .entry)) step (now (region .exit)) r ⌝ }
 {
-    let journal_key = codec::journal_key(index);
+    let key = codec::key_part(entry);
+    let value = codec::value_part(entry);
     match codec::decode_entry(entry) {
-        Entry::Put(_) => {
-            let stored = items::store(
-                region,
-                script,
-                codec::key_part(entry),
-                codec::value_part(entry),
-                step,
-            );
-            let ItemAnswer::Done(next) = stored else {
-                return stored;
-            };
-            items::remove(region, script, &journal_key, next)
-        }
-        Entry::Delete(_) => {
-            let removed = items::remove(region, script, codec::key_part(entry), step);
-            let ItemAnswer::Done(next) = removed else {
-                return removed;
-            };
-            items::remove(region, script, &journal_key, next)
-        }
+        Entry::Put(_) => land(region, script, index, OpKind::Put, key, value, step),
+        Entry::Delete(_) => land(region, script, index, OpKind::Delete, key, value, step),
         Entry::Corrupt => {
             let part = JournalPart::Entry(index as usize);
             ItemAnswer::Failed(Fault::JournalCorrupted(part), step)

@@ -5,6 +5,7 @@ use lib.ListN.{length}
 use Rattle.definition.specs.Program.{flat}
 use Rattle.definition.specs.Recovery.{land}
 use Rattle.definition.specs.Calls.{apply}
+use Rattle.journal.proofs.Operations.{op-fits}
 use Rattle.oplist.proofs.Walks.{met-op, met-nothing}
 use Rattle.batch.specs.Forms.{Tested}
 use Rattle.batch.proofs.Walking.{tested-op, tested-on, Each, each-start, each-over, each-failed, each-on, apply-turn, apply-over}
@@ -45,7 +46,7 @@ value-at-requires : tie.Need-value-at-requires Inv-loop μ-loop
 value-at-requires c κs = let m = met-op (c .before .before .before .before .before .op-at .ensures) (c .before .before .before .kind .given .1) in search needs
 
 land-requires : tie.Need-land-requires Inv-loop μ-loop
-land-requires c κs = (c .before .before .before .before .before .before .before .loop .inv .2 .fine, tested-op (c .before .before .before .before .before .before .before .loop .inv .1) (met-op (c .before .before .before .before .before .before .op-at .ensures) (c .before .before .before .before .kind .given .1)) (c .before .key-at .ensures) (c .value-at .ensures))
+land-requires c κs = (c .before .before .before .before .before .before .before .loop .inv .2 .fine, op-fits _ _ _ (tested-op (c .before .before .before .before .before .before .before .loop .inv .1) (met-op (c .before .before .before .before .before .before .op-at .ensures) (c .before .before .before .before .kind .given .1)) (c .before .key-at .ensures) (c .value-at .ensures)))
 
 enum-known-landed : tie.Need-enum-known-landed Inv-loop μ-loop
 enum-known-landed c = search needs

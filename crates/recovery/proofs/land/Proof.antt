@@ -1,7 +1,7 @@
-use Rattle.journal.proofs.Operations.{land-failed, land-on}
+use Rattle.recovery.proofs.Entries.{land-failed, land-on}
 use borrow.Author.Needs.{needs}
-use Rattle.journal.proofs.land.Statement.{statement}
-use Rattle.journal.proofs.land.Tie as tie
+use Rattle.recovery.proofs.land.Statement.{statement}
+use Rattle.recovery.proofs.land.Tie as tie
 
 act-requires : tie.Need-act-requires
 act-requires c κs = search needs

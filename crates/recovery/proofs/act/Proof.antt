@@ -1,13 +1,13 @@
-use Rattle.journal.proofs.Operations.{put-allowed, acts-put, acts-delete}
+use Rattle.recovery.proofs.Entries.{put-fits, acts-put, acts-delete}
 use borrow.Author.Needs.{needs}
-use Rattle.journal.proofs.act.Statement.{statement}
-use Rattle.journal.proofs.act.Tie as tie
+use Rattle.recovery.proofs.act.Statement.{statement}
+use Rattle.recovery.proofs.act.Tie as tie
 
 enum-told : tie.Need-enum-told
 enum-told c = search needs
 
 store-requires : tie.Need-store-requires
-store-requires c κs = (c .before .before .before .before .before .before .before .pre .0, put-allowed _ _ (c .before .enum-told .given .1) (c .before .before .before .before .before .before .before .pre .1))
+store-requires c κs = (c .before .before .before .before .before .before .before .pre .0, put-fits _ _ (c .before .enum-told .given .1) (c .before .before .before .before .before .before .before .pre .1))
 
 enum-told-2 : tie.Need-enum-told-2
 enum-told-2 c = search needs
