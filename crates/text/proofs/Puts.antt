@@ -47,7 +47,8 @@ module _ {made : Waiting} (w : Waiting) (s : Bytes) {i : ℕ} where
   pub hex-more : {w' : Waiting} → made ≡ addBytes w (hexOf (drop i s)) → i < length s → w' ≡ addBytes w (digits 16 2 (getD s i 0))
       → made ≡ addBytes w' (hexOf (drop (i + 1) s))
   unfolding hexOf
-  hex-more e h f = e ∙ ap (λ (x : Bytes). addBytes w (hexOf x)) (at-place s i h) ∙ add-append w (digits 16 2 (getD s i 0)) (hexOf (drop (i + 1) s)) ∙ rw f
+  hex-more e h f =
+      e ∙ ap (λ (x : Bytes). addBytes w (hexOf x)) (at-place s i h) ∙ add-append w (digits 16 2 (getD s i 0)) (hexOf (drop (i + 1) s)) ∙ rw f
 
   pub hex-all : made ≡ addBytes w (hexOf (drop i s)) → length s ≤ i → w ≡ made
   unfolding hexOf addBytes

@@ -96,6 +96,7 @@ pub enum Hex {
     Unread,
 }
 
+// A byte as a number. A call, since a cast in place would ask each time that the byte fits.
 fn wide(byte: u8) -> u64
     ensures { λ r. ⌜ (r ≡ byte) × (r < 256) ⌝ }
 {
@@ -169,7 +170,7 @@ pub fn flush(out: &[u8], used: usize) -> usize
     0
 }
 
-// Puts a byte behind the `used` that wait in `out`, and hands back how many wait then. Where there is no room, nothing waits any longer.
+// Puts a byte behind the `used` that wait in `out`, and hands back how many wait then. Where there is no room all are written, and none waits.
 pub fn put_byte(out: &mut [u8], used: usize, byte: u8) -> usize
     ensures { λ r. ⌜ waits (now (out .exit)) r ≡ addByte (waits (now (out .entry)) used) byte ⌝ }
 {
@@ -204,6 +205,7 @@ pub fn put_decimal(out: &mut [u8], used: usize, n: u64) -> usize
     put(out, used, &text[..count])
 }
 
+// A hex digit in ASCII, in lower case.
 fn glyph(digit: u8) -> u8
     requires { ⌜ digit < 16 ⌝ }
     ensures { λ r. ⌜ r ≡ Digits·glyph digit ⌝ }

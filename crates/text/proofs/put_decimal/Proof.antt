@@ -21,7 +21,9 @@ same-length : tie.Need-same-length
 same-length c = search needs
 
 returns : tie.Need-returns
-returns c = let d = c .before .before .before .before .before .decimal .ensures in c .before .before .put .ensures ∙ ap (addBytes _) (d .1 .1 ∙ digits-are _ _ (d .1 .0))
+returns c =
+    let d = c .before .before .before .before .before .decimal .ensures in
+    c .before .before .put .ensures ∙ ap (addBytes _) (d .1 .1 ∙ digits-are _ _ (d .1 .0))
 
 pub put-decimal-spec : {M : Type 1} → statement M
 put-decimal-spec =
