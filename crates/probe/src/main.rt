@@ -648,22 +648,12 @@ fn run_lines(
     run.waiting
 }
 
-fn session(
-    region: &mut [u8],
-    script: &mut [u8],
-    input: &mut [u8],
-    line: &mut [u8],
-    out: &mut [u8],
-) {
-    let waiting = run_lines(region, script, input, line, out);
-    text::flush(out, waiting);
-}
-
 fn main() {
     let mut region = [255u8; REGION_SIZE];
     let mut script = [0u8; SCRIPT_SIZE];
     let mut input = [0u8; IN_SIZE];
     let mut line = [0u8; LINE_SIZE];
     let mut out = [0u8; OUT_SIZE];
-    session(&mut region, &mut script, &mut input, &mut line, &mut out);
+    let waiting = run_lines(&mut region, &mut script, &mut input, &mut line, &mut out);
+    text::flush(&out, waiting);
 }

@@ -768,18 +768,6 @@ fn run_lines(
     said.waiting
 }
 
-fn session(
-    region: &mut [u8],
-    script: &mut [u8],
-    work: &mut [u8],
-    input: &mut [u8],
-    line: &mut [u8],
-    out: &mut [u8],
-) {
-    let waiting = run_lines(region, script, work, input, line, out);
-    text::flush(out, waiting);
-}
-
 fn main() {
     let mut region = [255u8; REGION_SIZE];
     let mut script = [0u8; SCRIPT_SIZE];
@@ -787,7 +775,7 @@ fn main() {
     let mut input = [0u8; IN_SIZE];
     let mut line = [0u8; LINE_SIZE];
     let mut out = [0u8; OUT_SIZE];
-    session(
+    let waiting = run_lines(
         &mut region,
         &mut script,
         &mut work,
@@ -795,4 +783,5 @@ fn main() {
         &mut line,
         &mut out,
     );
+    text::flush(&out, waiting);
 }

@@ -151,7 +151,8 @@ module _ {s : Bytes} {n i : ℕ} (r : Reading s n i) where
   reading-over h = sym (r .is ∙ ap (numeralFrom n) (drop-of-length-le s h))
 
   module _ {x : ℕ} (h : i < length s) (e : x ≡ getD s i 0) where
-    reading-at : numeralOf s ≡ pick (among 48 57 x) (pick (ltb (n * 10 + (x - 48)) (2 ^ 64)) (numeralFrom (n * 10 + (x - 48)) (drop (suc i) s)) N.Unread) N.Unread
+    reading-at : numeralOf s
+        ≡ pick (among 48 57 x) (pick (ltb (n * 10 + (x - 48)) (2 ^ 64)) (numeralFrom (n * 10 + (x - 48)) (drop (suc i) s)) N.Unread) N.Unread
     unfolding numeralFrom
     reading-at = rw e (r .is ∙ ap (numeralFrom n) (drop-cons s i 0 h))
 
@@ -302,7 +303,8 @@ module _ (line p : Bytes) (h : Held) (inside : h .len ≤ length line) where
         record { long = refl; inside = omega arith; fits = sym (pick-yes _ _ e ∙ lt-leb _ _ l); is = λ f. no refl f }
 
     -- one with room for p
-    pub holds-more : {after : Bytes} → length p ≤ length line - h .len → length after ≡ length line → take (h .len + length p) after ≡ take (h .len) line ++ p
+    pub holds-more : {after : Bytes} → length p ≤ length line - h .len → length after ≡ length line
+        → take (h .len + length p) after ≡ take (h .len) line ++ p
         → Holds line h p after (record { len = h .len + length p; fits = true })
     unfolding holdsAll
     holds-more k l f =

@@ -11,7 +11,8 @@ use Rattle.text.specs.declared.Unread.{Unread}
 use Rattle.text.specs.declared.LineAnswer.{LineAnswer}
 use Rattle.text.specs.declared.LineKind.the-variants.{Whole, TooLong, Over}
 
--- a line's bytes are the first of the line buffer, and those that wait lie in the input buffer
+-- a line's bytes are the first of the line buffer, and those that wait lie in the input buffer.
+-- `counted` follows from `inside`: who lends those first bytes finds it here
 pub record LineRead (input line : Bytes) (r : LineAnswer) : Type 0 where
   pub inside : r .len ≤ length line
   pub counted : r .len ≡ length (take (r .len) line)

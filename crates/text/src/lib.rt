@@ -10,6 +10,7 @@ ghost use Rattle.io.specs.Digits.{glyph as Digits·glyph};
 ghost use Rattle.text.specs.Words.{Finds, Skips, NextWord};
 ghost use Rattle.text.specs.Numerals.{numeralOf, Digit, pairOf};
 ghost use Rattle.text.specs.Lines.{Holds, Ended, Last, LineRead};
+ghost use Rattle.text.specs.Waiting.{waits, addByte, addBytes, decimalOf, hexOf};
 
 const SPACE: u8 = 32;
 
@@ -95,6 +96,7 @@ pub enum Hex {
     Unread,
 }
 
+// A byte as a number. A call, since a cast in place would ask each time that the byte fits.
 fn wide(byte: u8) -> u64
     ensures { λ r. ⌜ (r ≡ byte) × (r < 256) ⌝ }
 {
@@ -158,26 +160,33 @@ pub fn read_hex(word: &[u8]) -> Hex
 
 // ---- standard output
 
-// Writes the bytes that wait. Nothing is left to do where a write fails, so its answer is dropped.
-pub fn flush(out: &[u8], used: usize) {
+// Writes the bytes that wait, and hands back how many wait then. Nothing is left to do where a write fails, so its answer is dropped.
+pub fn flush(out: &[u8], used: usize) -> usize
+    ensures { λ r. ⌜ r ≡ 0 ⌝ }
+{
     if used <= out.len() {
         io::write_all(STDOUT_FILENO, &out[..used]);
     }
+    0
 }
 
-// Puts a byte behind the `used` that wait in `out`, and hands back how many wait then. Where there is no room, nothing waits any longer.
-pub fn put_byte(out: &mut [u8], used: usize, byte: u8) -> usize {
+// Puts a byte behind the `used` that wait in `out`, and hands back how many wait then. Where there is no room all are written, and none waits.
+pub fn put_byte(out: &mut [u8], used: usize, byte: u8) -> usize
+    ensures { λ r. ⌜ waits (now (out .exit)) r ≡ addByte (waits (now (out .entry)) used) byte ⌝ }
+{
     if used < out.len() {
         out[used] = byte;
         return used + 1;
     }
-    flush(out, used);
+    let used = flush(out, used);
     io::write_all(STDOUT_FILENO, &[byte]);
-    0
+    used
 }
 
 // Puts bytes as they are.
-pub fn put(out: &mut [u8], used: usize, text: &[u8]) -> usize {
+pub fn put(out: &mut [u8], used: usize, text: &[u8]) -> usize
+    ensures { λ r. ⌜ waits (now (out .exit)) r ≡ addBytes (waits (now (out .entry)) used) (now (text .entry)) ⌝ }
+{
     let mut used = used;
     let mut i: usize = 0;
     while i < text.len() {
@@ -188,12 +197,15 @@ pub fn put(out: &mut [u8], used: usize, text: &[u8]) -> usize {
 }
 
 // Puts a number in decimal.
-pub fn put_decimal(out: &mut [u8], used: usize, n: u64) -> usize {
+pub fn put_decimal(out: &mut [u8], used: usize, n: u64) -> usize
+    ensures { λ r. ⌜ waits (now (out .exit)) r ≡ addBytes (waits (now (out .entry)) used) (decimalOf n) ⌝ }
+{
     let mut text = [0u8; 20];
     let count = io::decimal(n, &mut text);
     put(out, used, &text[..count])
 }
 
+// A hex digit in ASCII, in lower case.
 fn glyph(digit: u8) -> u8
     requires { ⌜ digit < 16 ⌝ }
     ensures { λ r. ⌜ r ≡ Digits·glyph digit ⌝ }
@@ -209,7 +221,9 @@ fn spelled(byte: u8) -> [u8; 2]
 }
 
 // Puts bytes in hex.
-pub fn put_hex(out: &mut [u8], used: usize, bytes: &[u8]) -> usize {
+pub fn put_hex(out: &mut [u8], used: usize, bytes: &[u8]) -> usize
+    ensures { λ r. ⌜ waits (now (out .exit)) r ≡ addBytes (waits (now (out .entry)) used) (hexOf (now (bytes .entry))) ⌝ }
+{
     let mut used = used;
     let mut i: usize = 0;
     while i < bytes.len() {

@@ -28,7 +28,8 @@ array-share-prefix-key-bytes : tie.Need-array-share-prefix-key-bytes
 array-share-prefix-key-bytes c = filled-in (c .before .before .before .before .before .unhex .ensures) (c .before .before .key-len .given .1)
 
 slice-aggregate-put-fetched : tie.Need-slice-aggregate-put-fetched
-slice-aggregate-put-fetched c = filled-length (c .before .before .before .before .before .before .unhex .ensures) (c .before .before .before .key-len .given .1)
+slice-aggregate-put-fetched c =
+    filled-length (c .before .before .before .before .before .before .unhex .ensures) (c .before .before .before .key-len .given .1)
 
 put-fetched-requires : tie.Need-put-fetched-requires
 put-fetched-requires c κs = search needs

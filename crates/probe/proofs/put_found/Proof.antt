@@ -28,7 +28,9 @@ put-requires-2 : tie.Need-put-requires-2
 put-requires-2 c κs = search needs
 
 part-requires : tie.Need-part-requires
-part-requires c κs = spot-inside _ (c .before .before .before .before .before .before .before .before .before .before .before .pre) (c .before .before .before .before .before .before .before .spot .given .1) .within
+part-requires c κs =
+    spot-inside _ (c .before .before .before .before .before .before .before .before .before .before .before .pre)
+    (c .before .before .before .before .before .before .before .spot .given .1) .within
 
 put-bytes-requires : tie.Need-put-bytes-requires
 put-bytes-requires c κs = search needs

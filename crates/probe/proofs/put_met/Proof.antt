@@ -29,7 +29,10 @@ put-requires-2 : tie.Need-put-requires-2
 put-requires-2 c κs = search needs
 
 key-at-requires : tie.Need-key-at-requires
-key-at-requires c κs = let m = visit-inside (c .before .before .before .before .before .before .before .before .before .before .before .pre) (c .before .before .before .before .before .before .before .met .given .1) in omega arith
+key-at-requires c κs =
+    let m = visit-inside (c .before .before .before .before .before .before .before .before .before .before .before .pre)
+    (c .before .before .before .before .before .before .before .met .given .1) in
+    omega arith
 
 put-bytes-requires : tie.Need-put-bytes-requires
 put-bytes-requires c κs = search needs
@@ -41,7 +44,11 @@ put-requires-3 : tie.Need-put-requires-3
 put-requires-3 c κs = search needs
 
 value-at-requires : tie.Need-value-at-requires
-value-at-requires c κs = let m = visit-inside (c .before .before .before .before .before .before .before .before .before .before .before .before .before .before .before .before .before .before .before .before .before .pre) (c .before .before .before .before .before .before .before .before .before .before .before .before .before .before .before .before .before .met .given .1) in omega arith
+value-at-requires c κs =
+    let d = c .before .before .before .before .before .before .before .before .before .before in
+    let m = visit-inside (d .before .before .before .before .before .before .before .before .before .before .before .pre)
+    (d .before .before .before .before .before .before .before .met .given .1) in
+    omega arith
 
 put-bytes-requires-2 : tie.Need-put-bytes-requires-2
 put-bytes-requires-2 c κs = search needs

@@ -28,7 +28,8 @@ array-share-prefix-key-bytes : tie.Need-array-share-prefix-key-bytes
 array-share-prefix-key-bytes c = filled-in (c .before .before .before .before .before .unhex .ensures) (c .before .before .key-len .given .1)
 
 slice-aggregate-remove : tie.Need-slice-aggregate-remove
-slice-aggregate-remove c = filled-length (c .before .before .before .before .before .before .unhex .ensures) (c .before .before .before .key-len .given .1)
+slice-aggregate-remove c =
+    filled-length (c .before .before .before .before .before .before .unhex .ensures) (c .before .before .before .key-len .given .1)
 
 remove-requires : tie.Need-remove-requires
 remove-requires c κs = search needs

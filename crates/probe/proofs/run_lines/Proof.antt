@@ -21,7 +21,8 @@ record Standing (region₀ script₀ input₀ line₀ out₀ region script input
   within : unread .to ≤ length input
 
 abbrev Inv-loop : tie.InvT-loop
-Inv-loop region₀ script₀ input₀ line₀ out₀ bench₀ unread₀ lines₀ region script input line out bench unread lines = Standing region₀ script₀ input₀ line₀ out₀ region script input line out bench unread
+Inv-loop region₀ script₀ input₀ line₀ out₀ bench₀ unread₀ lines₀ region script input line out bench unread lines =
+    Standing region₀ script₀ input₀ line₀ out₀ region script input line out bench unread
 
 abbrev μ-loop : tie.MeasureT-loop
 μ-loop region₀ script₀ input₀ line₀ out₀ bench₀ unread₀ lines₀ region script input line out bench unread lines = lines

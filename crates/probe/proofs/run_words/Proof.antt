@@ -41,13 +41,17 @@ slice-relend-prefix-run-on-region : tie.Need-slice-relend-prefix-run-on-region
 slice-relend-prefix-run-on-region c = search needs
 
 slice-aggregate-run-on-region : tie.Need-slice-aggregate-run-on-region
-slice-aggregate-run-on-region c = sym (length-take-le _ _ (c .before .before .before .before .before .before .before .before .before .before .before .before .pre .region-in))
+slice-aggregate-run-on-region c =
+    sym (length-take-le _ _
+    (c .before .before .before .before .before .before .before .before .before .before .before .before .pre .region-in))
 
 slice-reshare-prefix-run-on-region : tie.Need-slice-reshare-prefix-run-on-region
 slice-reshare-prefix-run-on-region c = search needs
 
 slice-aggregate-run-on-region-2 : tie.Need-slice-aggregate-run-on-region-2
-slice-aggregate-run-on-region-2 c = sym (length-take-le _ _ (c .before .before .before .before .before .before .before .before .before .before .before .before .before .pre .script-in))
+slice-aggregate-run-on-region-2 c =
+    sym (length-take-le _ _
+    (c .before .before .before .before .before .before .before .before .before .before .before .before .before .pre .script-in))
 
 run-on-region-requires : tie.Need-run-on-region-requires
 run-on-region-requires c κs = search needs

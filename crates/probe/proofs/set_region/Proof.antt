@@ -65,13 +65,20 @@ erase-requires : tie.Need-erase-requires
 erase-requires c κs = search needs
 
 array-share-prefix-bytes : tie.Need-array-share-prefix-bytes
-array-share-prefix-bytes c = filled-in (c .before .before .before .before .before .before .before .before .before .before .unhex .ensures) (c .before .before .before .before .before .before .before .count .given .1)
+array-share-prefix-bytes c =
+    filled-in (c .before .before .before .before .before .before .before .before .before .before .unhex .ensures)
+    (c .before .before .before .before .before .before .before .count .given .1)
 
 slice-aggregate-copy-in : tie.Need-slice-aggregate-copy-in
-slice-aggregate-copy-in c = filled-length (c .before .before .before .before .before .before .before .before .before .before .before .unhex .ensures) (c .before .before .before .before .before .before .before .before .count .given .1)
+slice-aggregate-copy-in c =
+    filled-length (c .before .before .before .before .before .before .before .before .before .before .before .unhex .ensures)
+    (c .before .before .before .before .before .before .before .before .count .given .1)
 
 copy-in-requires : tie.Need-copy-in-requires
-copy-in-requires c κs = let e = filled-length (c .before .before .before .before .before .before .before .before .before .before .before .unhex .ensures) (c .before .before .before .before .before .before .before .before .count .given .1) in omega arith
+copy-in-requires c κs =
+    let e = filled-length (c .before .before .before .before .before .before .before .before .before .before .before .unhex .ensures)
+    (c .before .before .before .before .before .before .before .before .count .given .1) in
+    omega arith
 
 new-requires : tie.Need-new-requires
 new-requires c κs = search needs

@@ -17,7 +17,10 @@ returns : tie.Need-returns
 returns c = search needs
 
 store-requires : tie.Need-store-requires
-store-requires c κs = (c .before .before .before .before .before .before .before .before .pre, sym (c .before .before .is-allowed .ensures) ∙ not-false _ (c .before .if1 .left))
+store-requires c κs = (
+  c .before .before .before .before .before .before .before .before .pre,
+  sym (c .before .before .is-allowed .ensures) ∙ not-false _ (c .before .if1 .left),
+)
 
 slice-aggregate-say-item : tie.Need-slice-aggregate-say-item
 slice-aggregate-say-item c = search needs

@@ -46,16 +46,25 @@ returns-2 : tie.Need-returns-2
 returns-2 c = search needs
 
 array-share-prefix-key-bytes : tie.Need-array-share-prefix-key-bytes
-array-share-prefix-key-bytes c = filled-in (c .before .before .before .before .before .before .before .before .before .before .before .before .unhex .ensures) (c .before .before .before .before .before .before .before .before .before .key-len .given .1)
+array-share-prefix-key-bytes c =
+    filled-in (c .before .before .before .before .before .before .before .before .before .before .before .before .unhex .ensures)
+    (c .before .before .before .before .before .before .before .before .before .key-len .given .1)
 
 slice-aggregate-store-item : tie.Need-slice-aggregate-store-item
-slice-aggregate-store-item c = filled-length (c .before .before .before .before .before .before .before .before .before .before .before .before .before .unhex .ensures) (c .before .before .before .before .before .before .before .before .before .before .key-len .given .1)
+slice-aggregate-store-item c =
+    filled-length
+    (c .before .before .before .before .before .before .before .before .before .before .before .before .before .unhex .ensures)
+    (c .before .before .before .before .before .before .before .before .before .before .key-len .given .1)
 
 array-share-prefix-value-bytes : tie.Need-array-share-prefix-value-bytes
-array-share-prefix-value-bytes c = filled-in (c .before .before .before .before .before .before .before .unhex2 .ensures) (c .before .before .before .before .value-len .given .1)
+array-share-prefix-value-bytes c =
+    filled-in (c .before .before .before .before .before .before .before .unhex2 .ensures)
+    (c .before .before .before .before .value-len .given .1)
 
 slice-aggregate-store-item-2 : tie.Need-slice-aggregate-store-item-2
-slice-aggregate-store-item-2 c = filled-length (c .before .before .before .before .before .before .before .before .unhex2 .ensures) (c .before .before .before .before .before .value-len .given .1)
+slice-aggregate-store-item-2 c =
+    filled-length (c .before .before .before .before .before .before .before .before .unhex2 .ensures)
+    (c .before .before .before .before .before .value-len .given .1)
 
 store-item-requires : tie.Need-store-item-requires
 store-item-requires c κs = search needs

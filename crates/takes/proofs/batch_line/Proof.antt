@@ -25,10 +25,13 @@ returns : tie.Need-returns
 returns c = search needs
 
 slice-reshare-prefix-apply-batch : tie.Need-slice-reshare-prefix-apply-batch
-slice-reshare-prefix-apply-batch c = filled-in (c .before .before .before .before .before .before .read-operations .ensures) (c .before .before .count .given .1)
+slice-reshare-prefix-apply-batch c =
+    filled-in (c .before .before .before .before .before .before .read-operations .ensures) (c .before .before .count .given .1)
 
 slice-aggregate-apply-batch : tie.Need-slice-aggregate-apply-batch
-slice-aggregate-apply-batch c = filled-length (c .before .before .before .before .before .before .before .read-operations .ensures) (c .before .before .before .count .given .1)
+slice-aggregate-apply-batch c =
+    filled-length (c .before .before .before .before .before .before .before .read-operations .ensures)
+    (c .before .before .before .count .given .1)
 
 apply-batch-requires : tie.Need-apply-batch-requires
 apply-batch-requires c κs = search needs

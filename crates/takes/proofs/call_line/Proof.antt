@@ -20,7 +20,8 @@ slice-aggregate-run-call : tie.Need-slice-aggregate-run-call
 slice-aggregate-run-call c = sym (length-take-le _ _ (c .before .before .before .before .before .before .before .before .before .pre .region-in))
 
 slice-aggregate-run-call-2 : tie.Need-slice-aggregate-run-call-2
-slice-aggregate-run-call-2 c = sym (length-take-le _ _ (c .before .before .before .before .before .before .before .before .before .before .pre .script-in))
+slice-aggregate-run-call-2 c =
+    sym (length-take-le _ _ (c .before .before .before .before .before .before .before .before .before .before .pre .script-in))
 
 run-call-requires : tie.Need-run-call-requires
 run-call-requires c κs = search needs

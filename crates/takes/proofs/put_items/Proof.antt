@@ -35,7 +35,9 @@ sub-put-item : tie.Need-sub-put-item Inv-loop μ-loop
 sub-put-item c = let m = visit-inside (c .before .before .before .before .next-item .ensures) (c .before .before .next .given .1) in omega arith
 
 part-put-item-start : tie.Need-part-put-item-start Inv-loop μ-loop
-part-put-item-start c = let m = visit-inside (c .before .before .before .before .next-item .ensures) (c .before .before .next .given .1) in omega arith
+part-put-item-start c =
+    let m = visit-inside (c .before .before .before .before .next-item .ensures) (c .before .before .next .given .1) in
+    omega arith
 
 part-put-item-end : tie.Need-part-put-item-end Inv-loop μ-loop
 part-put-item-end c = let m = visit-inside (c .before .before .before .before .next-item .ensures) (c .before .before .next .given .1) in omega arith
@@ -44,10 +46,16 @@ put-item-requires : tie.Need-put-item-requires Inv-loop μ-loop
 put-item-requires c κs = search needs
 
 loop-less : tie.Need-loop-less Inv-loop μ-loop
-loop-less c = let m = visit-inside (c .before .before .before .before .before .before .before .before .next-item .ensures) (c .before .before .before .before .before .before .next .given .1) in omega arith
+loop-less c =
+    let m = visit-inside (c .before .before .before .before .before .before .before .before .next-item .ensures)
+    (c .before .before .before .before .before .before .next .given .1) in
+    omega arith
 
 loop-again : tie.Need-loop-again Inv-loop μ-loop
-loop-again c = let m = visit-inside (c .before .before .before .before .before .before .before .before .next-item .ensures) (c .before .before .before .before .before .before .next .given .1) in omega arith
+loop-again c =
+    let m = visit-inside (c .before .before .before .before .before .before .before .before .next-item .ensures)
+    (c .before .before .before .before .before .before .next .given .1) in
+    omega arith
 
 pub put-items-spec : {M : Type 1} → statement M
 put-items-spec =

@@ -58,7 +58,11 @@ same-length-2 : tie.Need-same-length-2 Inv-loop μ-loop
 same-length-2 c = search needs
 
 returns-2 : tie.Need-returns-2 Inv-loop μ-loop
-returns-2 c = record { inside = filled-in (c .before .before .before .before .before .before .read-operation .ensures) (c .before .before .next .given .1) }
+returns-2 c =
+    record {
+      inside = filled-in (c .before .before .before .before .before .before .read-operation .ensures)
+          (c .before .before .next .given .1);
+    }
 
 add-from : tie.Need-add-from Inv-loop μ-loop
 add-from c = search needs
@@ -67,7 +71,12 @@ loop-less : tie.Need-loop-less Inv-loop μ-loop
 loop-less c = search needs
 
 loop-again : tie.Need-loop-again Inv-loop μ-loop
-loop-again c = (search needs, search needs, filled-in (c .before .before .before .before .before .before .read-operation .ensures) (c .before .before .next .given .1))
+loop-again c = (
+  search needs,
+  search needs,
+  filled-in (c .before .before .before .before .before .before .read-operation .ensures)
+      (c .before .before .next .given .1),
+)
 
 pub read-operations-spec : {M : Type 1} → statement M
 read-operations-spec =

@@ -10,7 +10,8 @@ use Rattle.takes.proofs.run_lines.Statement.{statement}
 use Rattle.takes.proofs.run_lines.Tie as tie
 
 -- the buffers keep their lengths, and what is kept from line to line lies in them
-record Standing (region₀ script₀ work₀ input₀ line₀ out₀ region script work input line out : Bytes) (console : Console) (unread : Unread) : Type 0 where
+record Standing (region₀ script₀ work₀ input₀ line₀ out₀ region script work input line out : Bytes) (console : Console) (unread : Unread)
+    : Type 0 where
   region-long : length region ≡ length region₀
   script-long : length script ≡ length script₀
   work-long : length work ≡ length work₀
@@ -22,7 +23,8 @@ record Standing (region₀ script₀ work₀ input₀ line₀ out₀ region scri
   within : unread .to ≤ length input
 
 abbrev Inv-loop : tie.InvT-loop
-Inv-loop region₀ script₀ work₀ input₀ line₀ out₀ console₀ unread₀ lines₀ region script work input line out console unread lines = Standing region₀ script₀ work₀ input₀ line₀ out₀ region script work input line out console unread
+Inv-loop region₀ script₀ work₀ input₀ line₀ out₀ console₀ unread₀ lines₀ region script work input line out console unread lines =
+    Standing region₀ script₀ work₀ input₀ line₀ out₀ region script work input line out console unread
 
 abbrev μ-loop : tie.MeasureT-loop
 μ-loop region₀ script₀ work₀ input₀ line₀ out₀ console₀ unread₀ lines₀ region script work input line out console unread lines = lines

@@ -38,13 +38,19 @@ returns-2 : tie.Need-returns-2
 returns-2 c = search needs
 
 slice-reshare-prefix-copy-in : tie.Need-slice-reshare-prefix-copy-in
-slice-reshare-prefix-copy-in c = filled-in (c .before .before .before .before .before .before .before .read-codes .ensures) (c .before .before .before .count .given .1)
+slice-reshare-prefix-copy-in c =
+    filled-in (c .before .before .before .before .before .before .before .read-codes .ensures) (c .before .before .before .count .given .1)
 
 slice-aggregate-copy-in : tie.Need-slice-aggregate-copy-in
-slice-aggregate-copy-in c = filled-length (c .before .before .before .before .before .before .before .before .read-codes .ensures) (c .before .before .before .before .count .given .1)
+slice-aggregate-copy-in c =
+    filled-length (c .before .before .before .before .before .before .before .before .read-codes .ensures)
+    (c .before .before .before .before .count .given .1)
 
 copy-in-requires : tie.Need-copy-in-requires
-copy-in-requires c κs = let e = filled-length (c .before .before .before .before .before .before .before .before .read-codes .ensures) (c .before .before .before .before .count .given .1) in omega arith
+copy-in-requires c κs =
+    let e = filled-length (c .before .before .before .before .before .before .before .before .read-codes .ensures)
+    (c .before .before .before .before .count .given .1) in
+    omega arith
 
 restarted-requires : tie.Need-restarted-requires
 restarted-requires c κs = search needs

@@ -23,7 +23,10 @@ same-length : tie.Need-same-length
 same-length c = search needs
 
 returns-3 : tie.Need-returns-3
-returns-3 c = holds-more _ _ _ (c .before .before .before .before .before .before .before .before .before .pre) (not-false _ (c .before .before .before .before .before .if1 .left)) (c .before .before .before .before .if2 .left) (search needs) (c .before .before .write-at .ensures)
+returns-3 c =
+    holds-more _ _ _ (c .before .before .before .before .before .before .before .before .before .pre)
+    (not-false _ (c .before .before .before .before .before .if1 .left)) (c .before .before .before .before .if2 .left) (search needs)
+    (c .before .before .write-at .ensures)
 
 pub hold-spec : {M : Type 1} → statement M
 hold-spec =

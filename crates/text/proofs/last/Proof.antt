@@ -11,7 +11,9 @@ ended-requires : tie.Need-ended-requires
 ended-requires c κs = search needs
 
 returns-2 : tie.Need-returns-2
-returns-2 c = ⊎-elim (λ w. last-whole (c .ended .ensures) (w .0 .taken) (w .2 .left)) (λ w. last-long (c .ended .ensures) (w .left)) (c .before .if1 .came)
+returns-2 c =
+    ⊎-elim (λ w. last-whole (c .ended .ensures) (w .0 .taken) (w .2 .left)) (λ w. last-long (c .ended .ensures) (w .left))
+    (c .before .if1 .came)
 
 pub last-spec : {M : Type 1} → statement M
 last-spec = tie.close (tie.spec returns ended-requires returns-2)

@@ -1,18 +1,21 @@
 use borrow.Author.Needs.{needs}
 use Prim.Native.Nat.{_-_}
-use mathlib.Core.Path.{_≡_}
-use lib.ListN.{length}
+use mathlib.Core.Path.{_≡_, refl}
+use lib.ListN.{length, drop}
+use Rattle.text.specs.Waiting.{waits, addBytes}
+use Rattle.text.proofs.Puts.{put-more, put-all}
 use Rattle.text.proofs.put.Statement.{statement}
 use Rattle.text.proofs.put.Tie as tie
 
 abbrev Inv-loop : tie.InvT-loop
-Inv-loop out₀ used text used₀ i₀ out used' i = length out ≡ length out₀
+Inv-loop out₀ used text used₀ i₀ out used' i =
+    (length out ≡ length out₀) × (addBytes (waits out₀ used) text ≡ addBytes (waits out used') (drop i text))
 
 abbrev μ-loop : tie.MeasureT-loop
 μ-loop out₀ used text used₀ i₀ out used' i = length text - i
 
 loop-holds : tie.Need-loop-holds Inv-loop μ-loop
-loop-holds c = search needs
+loop-holds c = (search needs, refl)
 
 shared-slice-read-put-byte : tie.Need-shared-slice-read-put-byte Inv-loop μ-loop
 shared-slice-read-put-byte c = search needs
@@ -27,13 +30,17 @@ loop-less : tie.Need-loop-less Inv-loop μ-loop
 loop-less c = search needs
 
 loop-again : tie.Need-loop-again Inv-loop μ-loop
-loop-again c = search needs
+loop-again c = (
+  search needs,
+  put-more _ _ (c .before .before .before .before .before .before .loop .inv .1)
+      (c .before .before .before .before .before .loop-test .taken) (c .before .before .put-byte .ensures),
+)
 
 same-length : tie.Need-same-length Inv-loop μ-loop
 same-length c = search needs
 
 returns : tie.Need-returns Inv-loop μ-loop
-returns c = search needs
+returns c = put-all _ _ (c .before .loop .inv .1) (c .loop-test .left)
 
 pub put-spec : {M : Type 1} → statement M
 put-spec =

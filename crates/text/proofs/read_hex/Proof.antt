@@ -35,16 +35,29 @@ enum-told-2 : tie.Need-enum-told-2
 enum-told-2 c = search needs
 
 returns-3 : tie.Need-returns-3
-returns-3 c = pair-low _ (c .before .before .before .before .before .before .before .before .before .if1 .left) (c .before .before .before .before .before .before .before .digit .ensures .is) (c .before .before .digit2 .ensures .is) (c .before .before .before .before .before .high .given .1) (c .enum-told2 .given .1)
+returns-3 c =
+    pair-low _ (c .before .before .before .before .before .before .before .before .before .if1 .left)
+    (c .before .before .before .before .before .before .before .digit .ensures .is) (c .before .before .digit2 .ensures .is)
+    (c .before .before .before .before .before .high .given .1) (c .enum-told2 .given .1)
 
 mul-t8 : tie.Need-mul-t8
-mul-t8 c = let h = small-value (c .before .before .before .before .before .before .before .before .digit .ensures .small) (c .before .before .before .before .before .before .high .given .1) in omega arith
+mul-t8 c =
+    let h = small-value (c .before .before .before .before .before .before .before .before .digit .ensures .small)
+    (c .before .before .before .before .before .before .high .given .1) in
+    omega arith
 
 add-t11 : tie.Need-add-t11
-add-t11 c = let h = small-value (c .before .before .before .before .before .before .before .before .digit .ensures .small) (c .before .before .before .before .before .before .high .given .1) in let l = small-value (c .before .before .before .digit2 .ensures .small) (c .before .low .given .1) in omega arith
+add-t11 c =
+    let h = small-value (c .before .before .before .before .before .before .before .before .digit .ensures .small)
+    (c .before .before .before .before .before .before .high .given .1) in
+    let l = small-value (c .before .before .before .digit2 .ensures .small) (c .before .low .given .1) in
+    omega arith
 
 returns-4 : tie.Need-returns-4
-returns-4 c = pair-both _ (c .before .before .before .before .before .before .before .before .before .before .if1 .left) (c .before .before .before .before .before .before .before .before .digit .ensures .is) (c .before .before .before .digit2 .ensures .is) (c .before .before .before .before .before .before .high .given .1) (c .before .low .given .1)
+returns-4 c =
+    pair-both _ (c .before .before .before .before .before .before .before .before .before .before .if1 .left)
+    (c .before .before .before .before .before .before .before .before .digit .ensures .is) (c .before .before .before .digit2 .ensures .is)
+    (c .before .before .before .before .before .before .high .given .1) (c .before .low .given .1)
 
 pub read-hex-spec : {M : Type 1} → statement M
 read-hex-spec =

@@ -14,7 +14,10 @@ glyph-requires-2 : tie.Need-glyph-requires-2
 glyph-requires-2 c κs = search needs
 
 returns : tie.Need-returns
-returns c = let b : ℕ = c .before .before .args .byte in let e : b / 16 ≡ b / 16 % 16 = omega arith in ap₂ (λ (x y : ℕ). x ∷ y ∷ []) (c .before .glyph .ensures ∙ ap glyph e) (c .glyph2 .ensures)
+returns c =
+    let b : ℕ = c .before .before .args .byte in
+    let e : b / 16 ≡ b / 16 % 16 = omega arith in
+    ap₂ (λ (x y : ℕ). x ∷ y ∷ []) (c .before .glyph .ensures ∙ ap glyph e) (c .glyph2 .ensures)
 
 pub spelled-spec : {M : Type 1} → statement M
 spelled-spec = tie.close (tie.spec glyph-requires glyph-requires-2 returns)
