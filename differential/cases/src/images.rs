@@ -1,7 +1,7 @@
 //! Images, good and bad, on both sides of each rule of the image test.
 
 use crate::hex::hex;
-use crate::list::{item, record};
+use records::{item, record};
 
 pub fn lines() -> Vec<String> {
     let mut lines = ends();

@@ -1,7 +1,7 @@
 //! Item calls: order and room, the script's codes, effects and cuts.
 
 use crate::hex::hex;
-use crate::list::item;
+use records::item;
 
 pub fn lines() -> Vec<String> {
     let mut lines = Vec::new();

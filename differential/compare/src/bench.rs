@@ -4,8 +4,8 @@
 use crate::call::Call;
 use crate::subject::Subject;
 use crate::tally::Tally;
-use model::{Reply, State};
-use oracle::{Outcome, ScriptedFlash, Session, PENDING};
+use oracle::{ScriptedFlash, Session};
+use outcome::{Outcome, State, PENDING};
 
 pub struct Bench {
     subject: Box<dyn Subject>,
@@ -80,14 +80,13 @@ impl Bench {
         let mut wanted_out = call.output();
         let mut out = call.output();
         let wanted = call.on_original(&mut self.session, &mut wanted_out);
-        let reply = call.on_subject(
+        let got = call.on_subject(
             self.subject.as_ref(),
             &mut self.region,
             &self.script,
             self.state,
             &mut out,
         );
-        let got = outcome(reply);
         self.tally.count(call.kind(), before.1.health, &wanted);
         let mut wrong = Vec::new();
         if wanted != got {
@@ -105,20 +104,6 @@ impl Bench {
         }
         self.state = State { health: wanted.health, at: wanted.at, cut: wanted.cut };
         wanted
-    }
-}
-
-fn outcome(reply: Reply) -> Outcome {
-    Outcome {
-        answer: reply.answer,
-        number: reply.number,
-        v: reply.v,
-        count: reply.count,
-        length: reply.length,
-        health: reply.health,
-        at: reply.at,
-        cut: reply.cut,
-        calls: reply.calls,
     }
 }
 

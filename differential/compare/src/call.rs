@@ -1,8 +1,8 @@
 //! One public call with its arguments, and doing it on either side.
 
 use crate::subject::{On, Subject};
-use model::{Reply, State};
-use oracle::{Outcome, Session};
+use oracle::Session;
+use outcome::{Outcome, State};
 
 #[derive(Clone, Debug)]
 pub enum Call {
@@ -60,7 +60,7 @@ impl Call {
         script: &[u8],
         state: State,
         out: &mut [u8],
-    ) -> Reply {
+    ) -> Outcome {
         let on = On { region, script, state };
         match self {
             Call::Mount { start, at } => subject.mount(on.region, script, *start, *at),

@@ -2,8 +2,8 @@
 
 use crate::bench::Bench;
 use crate::call::Call;
-use crate::images::{entry, filling, item, journal, marker, record, region};
-use model::State;
+use outcome::State;
+use records::{entry, filling, item, journal, marker, record, region};
 
 const MIB_4: usize = 4 << 20;
 const HEALTHS: [u64; 3] = [0, 1, 2];

@@ -5,7 +5,7 @@ use crate::bench::Bench;
 use crate::draw::Draw;
 use crate::material::{any_region, position, script};
 use crate::runs::call;
-use model::State;
+use outcome::State;
 
 pub fn some(bench: &mut Bench, draw: &mut Draw) {
     for _ in 0..10 {

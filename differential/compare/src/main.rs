@@ -7,7 +7,6 @@ mod bench;
 mod call;
 mod draw;
 mod edges;
-mod images;
 mod loose;
 mod material;
 mod runs;

@@ -2,7 +2,7 @@
 //! edges come up often.
 
 use crate::draw::Draw;
-use crate::images::{entry, filling, item, journal, marker, record, region};
+use records::{entry, filling, item, journal, marker, record, region};
 
 /// Few short keys, so that calls meet each other's items; and the odd ones.
 pub fn key(draw: &mut Draw) -> Vec<u8> {

@@ -3,8 +3,8 @@
 
 use crate::bench::Bench;
 use crate::call::Call;
-use crate::images::{entry, item, journal, marker, record, region};
-use model::State;
+use outcome::State;
+use records::{entry, item, journal, marker, record, region};
 
 pub fn all(bench: &mut Bench) {
     batches(bench);

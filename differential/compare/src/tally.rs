@@ -1,7 +1,7 @@
 //! Counts of calls and answers, and the first differences in full.
 
 use crate::call::Call;
-use oracle::{Outcome, CLEAN};
+use outcome::{Outcome, CLEAN};
 
 /// More than these are counted, not printed.
 const PRINTED: u64 = 5;

@@ -3,9 +3,10 @@
 use crate::codec::{entry, journal_key, marker, Op, MARKER_KEY};
 use crate::items::take;
 use crate::world::{on, World};
-use crate::{reserved, No, Reply, State, Yes, CLEAN, DEBRIS, PENDING};
+use crate::{reserved, No, Yes};
+use outcome::{Outcome, State, CLEAN, DEBRIS, PENDING};
 
-pub fn batch(region: &mut [u8], script: &[u8], state: State, list: &[u8]) -> Reply {
+pub fn batch(region: &mut [u8], script: &[u8], state: State, list: &[u8]) -> Outcome {
     on(region, script, state, |world| {
         let ops = operations(list).ok_or(No::BAD_LIST)?;
         if !ops.is_empty() {

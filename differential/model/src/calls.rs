@@ -1,9 +1,10 @@
 //! mount, get, contains, put and delete.
 
 use crate::world::{no_call, on, World};
-use crate::{reserved, No, Reply, State, Yes, DEBRIS, PENDING};
+use crate::{reserved, No, Yes};
+use outcome::{Outcome, State, DEBRIS, PENDING};
 
-pub fn mount(region: &mut [u8], script: &[u8], start: u32, at: u64) -> Reply {
+pub fn mount(region: &mut [u8], script: &[u8], start: u32, at: u64) -> Outcome {
     // Until it is known, the region may hold anything: a refused mount hands
     // back Pending. Every mount begins with the cut lifted.
     let state = State { health: PENDING, at, cut: 0 };
@@ -24,7 +25,7 @@ pub fn mount(region: &mut [u8], script: &[u8], start: u32, at: u64) -> Reply {
     })
 }
 
-pub fn get(region: &mut [u8], script: &[u8], state: State, key: &[u8], out: &mut [u8]) -> Reply {
+pub fn get(region: &mut [u8], script: &[u8], state: State, key: &[u8], out: &mut [u8]) -> Outcome {
     on(region, script, state, |world| {
         let Some(value) = look_up(world, key)? else {
             return Ok(Yes::plain(2));
@@ -38,14 +39,14 @@ pub fn get(region: &mut [u8], script: &[u8], state: State, key: &[u8], out: &mut
     })
 }
 
-pub fn contains(region: &mut [u8], script: &[u8], state: State, key: &[u8]) -> Reply {
+pub fn contains(region: &mut [u8], script: &[u8], state: State, key: &[u8]) -> Outcome {
     on(region, script, state, |world| {
         let found = look_up(world, key)?.is_some();
         Ok(Yes::plain(if found { 1 } else { 2 }))
     })
 }
 
-pub fn put(region: &mut [u8], script: &[u8], state: State, key: &[u8], value: &[u8]) -> Reply {
+pub fn put(region: &mut [u8], script: &[u8], state: State, key: &[u8], value: &[u8]) -> Outcome {
     on(region, script, state, |world| {
         world.recover_if_pending()?;
         let mut tried = try_put(world, key, value);
@@ -57,7 +58,7 @@ pub fn put(region: &mut [u8], script: &[u8], state: State, key: &[u8], value: &[
     })
 }
 
-pub fn delete(region: &mut [u8], script: &[u8], state: State, key: &[u8]) -> Reply {
+pub fn delete(region: &mut [u8], script: &[u8], state: State, key: &[u8]) -> Outcome {
     on(region, script, state, |world| {
         if reserved(key) {
             return Err(No::RESERVED);

@@ -1,4 +1,4 @@
-//! Document 01 as plain functions: bytes, script and state in, a reply out.
+//! Document 01 as plain functions: bytes, script and state in, an outcome out.
 //! Nothing here looks at the Rust original or at its stand-in engine.
 
 mod batch;
@@ -12,28 +12,6 @@ mod world;
 pub use batch::batch;
 pub use calls::{contains, delete, get, mount, put};
 pub use scan::scan;
-
-/// What a caller keeps between calls. Health: 0 clean, 1 debris, 2 pending.
-#[derive(Clone, Copy, Debug, Default, PartialEq, Eq)]
-pub struct State {
-    pub health: u64,
-    pub at: u64,
-    pub cut: u64,
-}
-
-/// Everything a call says but the bytes it leaves in region and output.
-#[derive(Clone, Copy, Debug, Default, PartialEq, Eq)]
-pub struct Reply {
-    pub answer: u64,
-    pub number: u64,
-    pub v: [u64; 3],
-    pub count: u64,
-    pub length: u64,
-    pub health: u64,
-    pub at: u64,
-    pub cut: u64,
-    pub calls: u64,
-}
 
 /// A refusal: document 01's number and its values.
 #[derive(Clone, Copy, Debug, PartialEq, Eq)]
@@ -69,10 +47,6 @@ impl Yes {
         Yes { answer, count: 0, length: 0 }
     }
 }
-
-pub(crate) const CLEAN: u64 = 0;
-pub(crate) const DEBRIS: u64 = 1;
-pub(crate) const PENDING: u64 = 2;
 
 /// The first byte of a bookkeeping key is 0.
 pub(crate) fn reserved(key: &[u8]) -> bool {

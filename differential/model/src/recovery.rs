@@ -2,7 +2,8 @@
 
 use crate::codec::{is_journal_key, journal_key, marker_count, operation, Op, MARKER_KEY};
 use crate::world::World;
-use crate::{No, CLEAN, PENDING};
+use crate::No;
+use outcome::{CLEAN, PENDING};
 
 impl World<'_> {
     /// Success makes the health Clean, failure keeps it.

@@ -3,7 +3,8 @@
 
 use crate::items::Item;
 use crate::world::{on, World};
-use crate::{reserved, No, Reply, State, Yes};
+use crate::{reserved, No, Yes};
+use outcome::{Outcome, State};
 
 const WINDOW: usize = 8;
 const FINISHED: u64 = 1;
@@ -17,9 +18,9 @@ pub fn scan(
     prefix: &[u8],
     most: u64,
     out: &mut [u8],
-) -> Reply {
+) -> Outcome {
     let (mut count, mut length) = (0, 0);
-    let reply = on(region, script, state, |world| {
+    let outcome = on(region, script, state, |world| {
         world.recover_if_pending()?;
         let mut last: Option<Vec<u8>> = None;
         if most == 0 {
@@ -47,7 +48,7 @@ pub fn scan(
         }
     });
     // A refused scan, too, tells which records stand.
-    Reply { count, length: length as u64, ..reply }
+    Outcome { count, length: length as u64, ..outcome }
 }
 
 fn pass(world: &mut World, prefix: &[u8], last: &Option<Vec<u8>>) -> Result<Vec<Item>, No> {

@@ -2,7 +2,8 @@
 //! every public call shares.
 
 use crate::items::{items, render, Item};
-use crate::{No, Reply, State, Yes};
+use crate::{No, Yes};
+use outcome::{Outcome, State};
 
 pub struct World<'s> {
     pub items: Vec<Item>,
@@ -128,7 +129,7 @@ pub fn on(
     script: &[u8],
     state: State,
     call: impl FnOnce(&mut World) -> Result<Yes, No>,
-) -> Reply {
+) -> Outcome {
     let State { health, at, cut } = state;
     let Some(items) = items(region) else {
         return no_call(No::CORRUPTED, state);
@@ -137,27 +138,27 @@ pub fn on(
         World { items, bytes: region.len(), health, script, at, cut: cut != 0, calls: 0 };
     let said = call(&mut world);
     render(&world.items, region);
-    let reply = Reply {
+    let left = Outcome {
         health: world.health,
         at: world.at,
         cut: u64::from(world.cut),
         calls: world.calls,
-        ..Reply::default()
+        ..Outcome::default()
     };
     match said {
-        Ok(yes) => Reply { answer: yes.answer, count: yes.count, length: yes.length, ..reply },
-        Err(No(number, v)) => Reply { number, v, ..reply },
+        Ok(yes) => Outcome { answer: yes.answer, count: yes.count, length: yes.length, ..left },
+        Err(No(number, v)) => Outcome { number, v, ..left },
     }
 }
 
 /// Refused before any item call, with the state as it was.
-pub fn no_call(no: No, state: State) -> Reply {
-    Reply {
+pub fn no_call(no: No, state: State) -> Outcome {
+    Outcome {
         number: no.0,
         v: no.1,
         health: state.health,
         at: state.at,
         cut: state.cut,
-        ..Reply::default()
+        ..Outcome::default()
     }
 }

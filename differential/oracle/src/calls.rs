@@ -2,10 +2,11 @@
 
 use crate::list::operations;
 use crate::number::{said, BAD_LIST, OUTPUT_TOO_SMALL};
-use crate::outcome::{Outcome, Said};
+use crate::said::Said;
 use crate::session::Session;
 use arxia_core::ArxiaError;
 use arxia_storage::StorageBackend;
+use outcome::Outcome;
 
 impl Session {
     pub fn get(&mut self, key: &[u8], out: &mut [u8]) -> Outcome {

@@ -4,7 +4,7 @@
 mod calls;
 mod list;
 mod number;
-mod outcome;
+mod said;
 mod scan;
 mod session;
 

@@ -1,6 +1,6 @@
 //! The original's errors as document 01's numbers and their values.
 
-use crate::outcome::Said;
+use crate::said::Said;
 use arxia_core::{
     ArxiaError, CapacityKind, DriverFaultKind, FlashFault, JournalPart, RegionFaultKind,
     SerializationFaultKind, StorageFault,

@@ -2,10 +2,11 @@
 //! most-records limit laid over it.
 
 use crate::number::said;
-use crate::outcome::{Outcome, Said};
+use crate::said::Said;
 use crate::session::Session;
 use arxia_core::ArxiaError;
 use arxia_storage::StorageBackend;
+use outcome::Outcome;
 use sequential_storage::image::{write_record, HEAD};
 
 const FINISHED: u64 = 1;

@@ -2,9 +2,10 @@
 //! changing the script, and reading the state off the original.
 
 use crate::number::{said, BAD_REGION, CORRUPTED, TOO_HIGH};
-use crate::outcome::{Outcome, Said, CLEAN, DEBRIS, PENDING};
+use crate::said::Said;
 use arxia_storage::{BatchOp, StorageBackend};
 use arxia_storage_flash::FlashStorage;
+use outcome::{Outcome, CLEAN, DEBRIS, PENDING};
 use sequential_storage::flash::ScriptedFlash;
 use sequential_storage::image;
 use sequential_storage::map::MapConfig;

@@ -1,4 +1,4 @@
-//! Building regions, records, journal entries and lists for the comparison.
+//! Building records, journal items, lists and regions for tests.
 
 /// One record of any kind, with whatever lengths the parts have.
 pub fn record(kind: u16, key: &[u8], value: &[u8]) -> Vec<u8> {
