@@ -6,6 +6,14 @@ use crate::subject::Subject;
 use crate::tally::Tally;
 use oracle::{ScriptedFlash, Session};
 use outcome::{Outcome, State, PENDING};
+use std::time::{Duration, Instant};
+
+/// What a call took on either side.
+#[derive(Clone, Copy, Default)]
+pub struct Spent {
+    pub original: Duration,
+    pub subject: Duration,
+}
 
 pub struct Bench {
     subject: Box<dyn Subject>,
@@ -13,6 +21,8 @@ pub struct Bench {
     region: Vec<u8>,
     script: Vec<u8>,
     state: State,
+    /// What the last call took.
+    pub spent: Spent,
     pub tally: Tally,
 }
 
@@ -24,6 +34,7 @@ impl Bench {
             region: Vec::new(),
             script: Vec::new(),
             state: State::default(),
+            spent: Spent::default(),
             tally: Tally::default(),
         }
     }
@@ -79,7 +90,10 @@ impl Bench {
         let before = (self.region.clone(), self.state);
         let mut wanted_out = call.output();
         let mut out = call.output();
+        let began = Instant::now();
         let wanted = call.on_original(&mut self.session, &mut wanted_out);
+        self.spent.original = began.elapsed();
+        let began = Instant::now();
         let got = call.on_subject(
             self.subject.as_ref(),
             &mut self.region,
@@ -87,7 +101,8 @@ impl Bench {
             self.state,
             &mut out,
         );
-        self.tally.count(call.kind(), before.1.health, &wanted);
+        self.spent.subject = began.elapsed();
+        self.tally.count(call.kind(), before.1.health, &wanted, self.spent);
         let mut wrong = Vec::new();
         if wanted != got {
             wrong.push(format!("original {wanted:?}\nsubject  {got:?}"));

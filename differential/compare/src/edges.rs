@@ -5,22 +5,12 @@ use crate::call::Call;
 use outcome::State;
 use records::{entry, filling, item, journal, marker, record, region};
 
-const MIB_4: usize = 4 << 20;
 const HEALTHS: [u64; 3] = [0, 1, 2];
 
-/// How much of what takes long is run: short leaves out the replays of a whole
-/// journal on 4 MiB, long adds a whole batch there.
-#[derive(Clone, Copy, PartialEq)]
-pub enum Extent {
-    Short,
-    Usual,
-    Long,
-}
-
-pub fn all(bench: &mut Bench, extent: Extent) {
+pub fn all(bench: &mut Bench) {
     regions(bench);
-    marker_counts(bench, extent);
-    operation_counts(bench, extent);
+    marker_counts(bench);
+    operation_counts(bench);
     key_and_value_lengths(bench);
     tight_regions(bench);
     standing_markers(bench);
@@ -56,13 +46,9 @@ fn regions(bench: &mut Bench) {
 
 /// The highest count a region takes and the first it refuses, by mount and by
 /// a read in Pending.
-fn marker_counts(bench: &mut Bench, extent: Extent) {
-    let limits = [(8192, 546), (65536, 4369), (MIB_4, 65534)];
-    for (len, most) in limits {
+fn marker_counts(bench: &mut Bench) {
+    for (len, most) in [(8192, 546), (65536, 4369)] {
         for count in [0, 1, most - 1, most, most + 1, 65534, 65535] {
-            if extent == Extent::Short && len == MIB_4 && (2..65535).contains(&count) {
-                continue;
-            }
             let last = journal(most - 1, &entry(0, b"a", b"2"));
             for records in [vec![marker(count)], vec![last, marker(count)]] {
                 let bytes = region(len, &records);
@@ -75,19 +61,13 @@ fn marker_counts(bench: &mut Bench, extent: Extent) {
     }
 }
 
-/// 65534 operations pass the count test, 65535 do not. A whole batch of that
-/// size takes long, so it waits to be asked for.
-fn operation_counts(bench: &mut Bench, extent: Extent) {
+/// 65534 operations pass the count test, 65535 do not.
+fn operation_counts(bench: &mut Bench) {
     for count in [1, 400, 512, 546, 65534, 65535, 65536] {
         let list = record(2, b"b", b"").repeat(count);
         bench.stand(&region(8192, &[]), &[], State::default());
         bench.run(&Call::Batch { list });
         bench.run(&get(b"b"));
-    }
-    if extent == Extent::Long {
-        let list = record(2, b"b", b"").repeat(65534);
-        bench.stand(&region(MIB_4, &[]), &[], State::default());
-        bench.run(&Call::Batch { list });
     }
 }
 

@@ -1,5 +1,5 @@
 //! Runs the same calls on the Rust original and on a subject, and says where
-//! they differ: `compare mirror|rattle CALLS SEED [short|long]`.
+//! they differ: `compare mirror|rattle CALLS SEED [short]`.
 
 #[cfg(feature = "rattle")]
 mod archive;
@@ -7,6 +7,7 @@ mod bench;
 mod call;
 mod draw;
 mod edges;
+mod large;
 mod loose;
 mod material;
 mod runs;
@@ -15,7 +16,6 @@ mod sweeps;
 mod tally;
 
 use bench::Bench;
-use edges::Extent;
 use std::process::ExitCode;
 use subject::{Mirror, Subject};
 
@@ -24,19 +24,15 @@ fn main() -> ExitCode {
     let numbers = args.get(1).zip(args.get(2));
     let numbers = numbers.and_then(|(calls, seed)| Some((calls.parse().ok()?, seed.parse().ok()?)));
     let (Some(name), Some((calls, seed))) = (args.first(), numbers) else {
-        eprintln!("compare mirror|rattle CALLS SEED [short|long]");
+        eprintln!("compare mirror|rattle CALLS SEED [short]");
         return ExitCode::from(2);
     };
     let Some(subject) = subject(name) else {
         eprintln!("no subject {name}: it is mirror, or rattle in a build with that feature");
         return ExitCode::from(2);
     };
-    let extent = match args.get(3).map(String::as_str) {
-        Some("short") => Extent::Short,
-        Some("long") => Extent::Long,
-        _ => Extent::Usual,
-    };
-    compare(subject, calls, seed, extent)
+    let short = args.get(3).is_some_and(|word| word == "short");
+    compare(subject, calls, seed, short)
 }
 
 fn subject(name: &str) -> Option<Box<dyn Subject>> {
@@ -48,10 +44,14 @@ fn subject(name: &str) -> Option<Box<dyn Subject>> {
     }
 }
 
-/// The edges first, always whole; then random calls until there are `calls`.
-fn compare(subject: Box<dyn Subject>, calls: u64, seed: u64, extent: Extent) -> ExitCode {
+/// The edges first, always whole; short leaves out what takes long. Then random
+/// calls until there are `calls`.
+fn compare(subject: Box<dyn Subject>, calls: u64, seed: u64, short: bool) -> ExitCode {
     let mut bench = Bench::new(subject);
-    edges::all(&mut bench, extent);
+    edges::all(&mut bench);
+    if !short {
+        large::all(&mut bench);
+    }
     sweeps::all(&mut bench);
     let mut draw = draw::Draw::new(seed);
     while bench.tally.calls() < calls {

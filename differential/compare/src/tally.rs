@@ -1,5 +1,6 @@
 //! Counts of calls and answers, and the first differences in full.
 
+use crate::bench::Spent;
 use crate::call::Call;
 use outcome::{Outcome, CLEAN};
 
@@ -14,6 +15,8 @@ pub struct Tally {
     /// Per kind of call, refusals by document 01's number.
     numbers: [[u64; NUMBERS]; Call::KINDS.len()],
     item_calls: u64,
+    /// Per kind of call, what all of them took.
+    spent: [Spent; Call::KINDS.len()],
     /// Answers that document 01 names and that no input gives.
     never: u64,
     differences: u64,
@@ -21,7 +24,9 @@ pub struct Tally {
 
 impl Tally {
     /// `health`: what the call found.
-    pub fn count(&mut self, kind: usize, health: u64, outcome: &Outcome) {
+    pub fn count(&mut self, kind: usize, health: u64, outcome: &Outcome, spent: Spent) {
+        self.spent[kind].original += spent.original;
+        self.spent[kind].subject += spent.subject;
         self.answers[kind][outcome.answer as usize] += 1;
         if outcome.answer == 0 {
             self.numbers[kind][outcome.number as usize] += 1;
@@ -63,6 +68,8 @@ impl Tally {
                 .map(|number| format!("{number}: {}", self.numbers[kind][number]))
                 .collect();
             println!("  refusals by number: {}", heard.join(", "));
+            let Spent { original, subject } = self.spent[kind];
+            println!("  time: original {original:.2?}, subject {subject:.2?}");
         }
         println!("answers that should never come {}", self.never);
         println!("differences {}", self.differences);
