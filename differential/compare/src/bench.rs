@@ -2,13 +2,14 @@
 //! and byte is compared.
 
 use crate::call::Call;
+use crate::clock::own_time;
 use crate::subject::Subject;
 use crate::tally::Tally;
 use oracle::{ScriptedFlash, Session};
 use outcome::{Outcome, State, PENDING};
-use std::time::{Duration, Instant};
+use std::time::Duration;
 
-/// What a call took on either side.
+/// What a call took on either side, in processor time.
 #[derive(Clone, Copy, Default)]
 pub struct Spent {
     pub original: Duration,
@@ -90,10 +91,9 @@ impl Bench {
         let before = (self.region.clone(), self.state);
         let mut wanted_out = call.output();
         let mut out = call.output();
-        let began = Instant::now();
+        let began = own_time();
         let wanted = call.on_original(&mut self.session, &mut wanted_out);
-        self.spent.original = began.elapsed();
-        let began = Instant::now();
+        let between = own_time();
         let got = call.on_subject(
             self.subject.as_ref(),
             &mut self.region,
@@ -101,7 +101,7 @@ impl Bench {
             self.state,
             &mut out,
         );
-        self.spent.subject = began.elapsed();
+        self.spent = Spent { original: between - began, subject: own_time() - between };
         self.tally.count(call.kind(), before.1.health, &wanted, self.spent);
         let mut wrong = Vec::new();
         if wanted != got {

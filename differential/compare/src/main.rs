@@ -5,6 +5,7 @@
 mod archive;
 mod bench;
 mod call;
+mod clock;
 mod draw;
 mod edges;
 mod large;
