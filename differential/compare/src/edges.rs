@@ -47,7 +47,7 @@ fn regions(bench: &mut Bench) {
 /// The highest count a region takes and the first it refuses, by mount and by
 /// a read in Pending.
 fn marker_counts(bench: &mut Bench) {
-    for (len, most) in [(8192, 546), (65536, 4369)] {
+    for (len, most) in [(8192, 546), (65536, 4369), (4 << 20, 65534)] {
         for count in [0, 1, most - 1, most, most + 1, 65534, 65535] {
             let last = journal(most - 1, &entry(0, b"a", b"2"));
             for records in [vec![marker(count)], vec![last, marker(count)]] {
