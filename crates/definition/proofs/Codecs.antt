@@ -1,26 +1,22 @@
 -- Laws of document 01's codecs: what is encoded decodes to itself, bookkeeping keys are told apart, and keys are strictly and totally ordered.
-use mathlib.Core.Path.{_≡_, refl, sym, ap, ap₂, _∙_, subst}
-use mathlib.Core.Logic.{_≢_, _⊎_, inl, inr}
-use mathlib.Core.Bool.{Bool, true, false}
-use mathlib.Core.List.{List, [], _∷_, _++_}
-use mathlib.Core.Option.{Option, none, some}
+use mathlib.Core.Path.{_≡_, refl, sym, ap, ap₂, _∙_}
+use mathlib.Core.Logic.{_≢_}
+use mathlib.Core.Bool.{true, false}
+use mathlib.Core.List.{[], _∷_, _++_}
+use mathlib.Core.Option.{none, some}
 use Prim.Native.Nat.{ℕ, suc, _+_, _-_, _*_, _/_, _%_, _≤_, _<_}
 use native.Mathlib.Omega.{arith}
 use native.Mathlib.Nat.{le-of-lt}
 use lib.ListN.{length, getD, take, drop, length-append}
 use lib.Seq.{take-append-seam, drop-append-seam}
-use lib.Dec.{T, eqb, ltb}
+use lib.Dec.{eqb, ltb}
 use borrow.Author.Tests.{lt-ltb, le-ltb, ltb-true, ltb-false, eq-eqb}
-use Rattle.definition.specs.Tools.{Bytes, pick, opt}
-use Rattle.definition.specs.Codec.{Op, Put, Delete, opKey, opValue, opByte, keyTooLong, valueTooLong, longKey, longValue, reserved, encode, entryOf, keyPart, valuePart, opOf, decode, opFault, be16, be16At, markerKey, journalKey, marker, markerOf, order}
+use Rattle.definition.specs.Tools.{Bytes, pick}
+use Rattle.definition.specs.Codec.{Op, Put, Delete, opKey, opValue, opByte, longKey, longValue, reserved, encode, entryOf, keyPart, valuePart, opOf, decode, opFault, be16, be16At, markerKey, journalKey, marker, markerOf, order}
 use Rattle.definition.specs.Scan.{isLess, rising}
 use Rattle.definition.proofs.Choices.{pick-yes, pick-no, bool, true≢false}
-use Rattle.definition.specs.declared.Entry.{Entry}
 use Rattle.definition.specs.declared.Entry.the-variants as E
-use Rattle.definition.specs.declared.Fault.{Fault}
-use Rattle.definition.specs.declared.Fault.the-variants.{ReservedKey}
-use Rattle.definition.specs.declared.Marker.{Marker}
-use Rattle.definition.specs.declared.Marker.the-variants.{Count, Unread}
+use Rattle.definition.specs.declared.Marker.the-variants.{Count}
 use Rattle.definition.specs.declared.Order.{Order}
 use Rattle.definition.specs.declared.Order.the-variants.{Less, Equal, Greater}
 

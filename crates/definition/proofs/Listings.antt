@@ -312,6 +312,3 @@ module _ (before : Bytes → Bytes → Bool) (O : StrictOrder before) where
       where
         y′ : Beyond prefix A (lastOf none done) (w ++ [])
         y′ = subst (Beyond prefix A (lastOf none done)) (sym (append-nil w)) y
-
-  pub whole-first : {prefix : Bytes} {A : Plain} {is : List Item} → Whole prefix A is → First prefix A is
-  whole-first w = record { rises = w .rises; holds = λ k e. w .holds k }

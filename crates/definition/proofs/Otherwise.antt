@@ -1,7 +1,7 @@
 -- Programs that document 01 wants shown wrong, by what the definition says on an erased region and after one put: refusing everything, a get that
 -- is always absent, a put that stores nothing, a batch that does its first operation alone, and an invented number of item calls.
 use mathlib.Core.Path.{_≡_, refl, sym, ap}
-use mathlib.Core.Bool.{Bool, true, false}
+use mathlib.Core.Bool.{false}
 use mathlib.Core.List.{List, [], _∷_}
 use mathlib.Core.Logic.{_≢_}
 use Prim.Native.Nat.{ℕ}
@@ -10,13 +10,11 @@ use native.Mathlib.Omega.{arith}
 use Rattle.definition.proofs.Computes.{computes}
 use Rattle.definition.specs.Tools.{Bytes}
 use Rattle.definition.specs.Region.{Item, item, render}
-use Rattle.definition.specs.Public.{Outcome, outcome, state, put, applyBatch, get}
+use Rattle.definition.specs.Public.{outcome, state, put, applyBatch, get}
 use Rattle.definition.specs.declared.State.{State}
 use Rattle.definition.specs.declared.Health.the-variants.{Clean}
 use Rattle.definition.specs.declared.Fault.{Fault}
-use Rattle.definition.specs.declared.Answer.{Answer}
 use Rattle.definition.specs.declared.Answer.the-variants.{Ok, Refused}
-use Rattle.definition.specs.declared.GetAnswer.{GetAnswer}
 use Rattle.definition.specs.declared.GetAnswer.the-variants as G
 
 abbrev image : List Item → Bytes

@@ -1,5 +1,4 @@
 -- Document 01's operation list: "records as above, kind 1 put, kind 2 delete with v = 0, keys to 255 bytes, values to 65535, ending exactly".
-use mathlib.Core.Bool.{Bool, true, false}
 use mathlib.Core.List.{List, [], _∷_}
 use mathlib.Core.Option.{Option, none, some, Option·map}
 use Prim.Native.Nat.{ℕ, zero, suc}

@@ -1,13 +1,12 @@
 -- The public calls: what each leaves behind, all of it. "Every public call on a region tests the image first (mount: after its region tests);
 -- a bad one answers 7 with nothing changed and no item call."
-use mathlib.Core.Bool.{Bool, true, false}
-use mathlib.Core.List.{List, [], _∷_}
-use mathlib.Core.Option.{Option, none, some}
+use mathlib.Core.Bool.{Bool, false}
+use mathlib.Core.List.{[]}
 use Prim.Native.Nat.{ℕ}
 use lib.ListN.{length}
 use Rattle.definition.specs.Tools.{Bytes, pick, opt}
 use Rattle.definition.specs.Codec.{laid}
-use Rattle.definition.specs.Program.{Prog, World, world, Result, ok, bad, exec, Map, flat}
+use Rattle.definition.specs.Program.{Prog, World, world, Result, ok, bad, exec, flat}
 use Rattle.definition.specs.Calls.{Said, regionFault}
 use Rattle.definition.specs.Calls as C
 use Rattle.definition.specs.Scan.{rising}

@@ -1,6 +1,5 @@
 -- Document 01, "The fault script": what a byte says, the fate of the next item call, and where a call stands after it.
-use mathlib.Core.Bool.{Bool, true, false}
-use mathlib.Core.List.{List, [], _∷_}
+use mathlib.Core.Bool.{true, false}
 use Prim.Native.Nat.{ℕ, _+_, _%_}
 use lib.ListN.{length, getD}
 use lib.Dec.{eqb, leb, ltb}

@@ -1,6 +1,6 @@
 -- How a reply's fields cross, and what an exported call's reply then says of the definition's outcome.
-use mathlib.Core.Path.{_≡_, refl, sym, ap, ap₂, _∙_}
-use mathlib.Core.List.{List, []}
+use mathlib.Core.Path.{_≡_, ap, ap₂, _∙_}
+use mathlib.Core.List.{[]}
 use Prim.Native.Nat.{ℕ}
 use Rattle.definition.specs.Tools.{Bytes}
 use Rattle.definition.specs.Numbers.{number}

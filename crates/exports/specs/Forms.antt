@@ -1,7 +1,6 @@
 -- What crosses to a host: states and replies as plain numbers, and what an exported call's reply says of the definition's outcome.
 use mathlib.Core.Path.{_≡_}
 use mathlib.Core.Bool.{Bool, true, false, not}
-use mathlib.Core.List.{List, []}
 use Prim.Native.Nat.{ℕ}
 use lib.Dec.{eqb}
 use Rattle.definition.specs.Tools.{Bytes, pick}

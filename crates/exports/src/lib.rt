@@ -13,9 +13,7 @@ use definition::TruthAnswer;
 use definition::TruthReply;
 use numbers::Three;
 ghost use mathlib.Core.Path.{_≡_};
-ghost use mathlib.Core.List.{[]};
 ghost use Rattle.definition.specs.Public;
-ghost use Rattle.definition.specs.Public.{outcome};
 ghost use Rattle.exports.specs.Forms.{healthNumber, healthOf, flagNumber, stateIn, built, refused, answerOut, getOut, truthOut, endOut, scanOut, Replies, Gets, Truths, Lists};
 
 // What a host keeps: health 0 Clean, 1 Debris, 2 Pending; the place in the script; whether the power is cut.

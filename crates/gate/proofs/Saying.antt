@@ -2,15 +2,15 @@
 use mathlib.Core.Path.{_≡_, refl, sym, ap, _∙_, subst}
 use mathlib.Core.Bool.{Bool, true, false}
 use mathlib.Core.Option.{Option}
-use mathlib.Core.List.{List, []}
+use mathlib.Core.List.{[]}
 use Prim.Native.Nat.{ℕ}
-use Rattle.definition.specs.Tools.{Bytes, pick}
+use Rattle.definition.specs.Tools.{Bytes}
 use Rattle.definition.specs.Codec.{laid}
 use Rattle.definition.specs.Region.{good}
-use Rattle.definition.specs.Program.{Prog, ret, onP, World, world, Result, ok, bad, exec, flat, fetch}
+use Rattle.definition.specs.Program.{Prog, ret, onP, world, ok, bad, exec, flat, fetch}
 use Rattle.definition.specs.Recovery.{recover}
 use Rattle.definition.specs.Calls.{Said, said, say, gate, isPending}
-use Rattle.definition.specs.Public.{Outcome, outcome, state, begin, outcomeOf, public}
+use Rattle.definition.specs.Public.{outcome, state, begin, outcomeOf, public}
 use Rattle.definition.proofs.Choices.{pick-yes, pick-no}
 use Rattle.definition.proofs.Running.{exec-ok, exec-bad}
 use Rattle.definition.specs.declared.Step.{Step}
@@ -32,7 +32,7 @@ use Rattle.items.specs.Forms.{Runs, Ran, Fetches, failureOf, unfetchedOf}
 use Rattle.items.proofs.Along.{ran-done, ran-failed, fetch-failed}
 use Rattle.gate.specs.declared.Converged.{Converged}
 use Rattle.gate.specs.declared.Converged.the-variants.{Ready, Failed}
-use Rattle.gate.specs.Forms.{ConvergedBy, Gate, unconvergedOf, unreadyOf, stateOf, replyOf, truthOf, Says, stands}
+use Rattle.gate.specs.Forms.{ConvergedBy, Gate, unconvergedOf, unreadyOf, stateOf, replyOf, truthOf, Says}
 
 -- ---- the recovery
 
@@ -52,14 +52,6 @@ module _ {h : Health} {s script : Bytes} {t : Step} {needed : Bool} where
 -- ---- what a program says
 
 module _ {A : Type 0} {s script : Bytes} {t : Step} where
-  pub says-run : {p : Prog Bytes (Said A)} {b : Bytes} {a : A} {h : Health} {out : Bytes} {t1 : Step}
-      → Runs p s script t b (ok (said a h out) (world b script t1)) → Says p s script t b a (stateOf h t1) (t1 .calls) out
-  says-run x = record { fine = x .fine; is = x .is }
-
-  pub run-says : {p : Prog Bytes (Said A)} {b : Bytes} {a : A} {st : State} {n : ℕ} {out : Bytes}
-      → Says p s script t b a st n out → Runs p s script t b (ok (said a (st .health) out) (world b script (stands st n)))
-  run-says x = record { fine = x .fine; is = x .is }
-
   pub says-ret : {a : A} {h : Health} {out : Bytes} → good s ≡ true → Says (ret (said a h out)) s script t s a (stateOf h t) (t .calls) out
   unfolding exec
   says-ret g = record { fine = g; is = refl }

@@ -1,16 +1,14 @@
 -- The forms of contracts of the calls: what a recovery left, and what a call's program says.
 use mathlib.Core.Path.{_≡_}
 use mathlib.Core.Bool.{Bool, true, false}
-use mathlib.Core.List.{List, []}
 use Prim.Native.Nat.{ℕ}
 use Rattle.definition.specs.Tools.{Bytes}
 use Rattle.definition.specs.Region.{good}
-use Rattle.definition.specs.Program.{Prog, World, world, Result, ok, bad, exec, flat}
+use Rattle.definition.specs.Program.{Prog, world, ok, bad, exec, flat}
 use Rattle.definition.specs.Recovery.{recover}
 use Rattle.definition.specs.Calls.{Said, said}
 use Rattle.definition.specs.declared.Step.{Step}
 use Rattle.definition.specs.declared.State.{State}
-use Rattle.definition.specs.declared.Fault.{Fault}
 use Rattle.definition.specs.declared.Fault.the-variants.{EngineBug}
 use Rattle.definition.specs.declared.Health.{Health}
 use Rattle.definition.specs.declared.Health.the-variants.{Clean}

@@ -1,6 +1,6 @@
 -- How a function's proof goes along its calls: what was run so far, and then what follows a call's success or its failure.
 use mathlib.Core.Path.{_≡_, refl, sym, ap, _∙_, subst}
-use mathlib.Core.Bool.{Bool, true}
+use mathlib.Core.Bool.{true}
 use mathlib.Core.Option.{Option}
 use Prim.Native.Nat.{ℕ}
 use Rattle.definition.specs.Tools.{Bytes}
@@ -51,9 +51,6 @@ module _ {A B : Type 0} {p : Prog Bytes A} {s script b : Bytes} {t t1 : Step} (k
     pub then-on : {a : A} → Runs p s script t b (ok a (world b script t1)) → Runs (k a) b script t1 b2 r → Runs (onP p k h) s script t b2 r
     then-on x n = record { fine = n .fine; is = n .is ∙ sym (exec-ok p (world s script t) k h (x .is)) }
 
-    pub then-else : {f : Fault} → Runs p s script t b (bad f (world b script t1)) → Runs (h f) b script t1 b2 r → Runs (onP p k h) s script t b2 r
-    then-else x n = record { fine = n .fine; is = n .is ∙ sym (exec-bad p (world s script t) k h (x .is)) }
-
   -- a failure that nothing takes up
   pub then-failed : {f : Fault} → Runs p s script t b (bad f (world b script t1)) → Runs (p ▷ k) s script t b (bad f (world b script t1))
   unfolding exec
@@ -97,9 +94,6 @@ pub ran-as : {p q : Prog Bytes (Unit {0})} {s script b : Bytes} {t : Step} {r : 
 ran-as {s = s} {script = script} {t = t} e h = record { fine = h .fine; is = h .is ∙ ap (λ p. exec p (world s script t)) (sym e) }
 
 module _ {p : Prog Bytes (Unit {0})} {s script b : Bytes} {t : Step} {r : ItemAnswer} where
-  pub failed-as : {f : Fault} {t1 : Step} → r ≡ Failed f t1 → Runs p s script t b (bad f (world b script t1)) → Ran p s script t b r
-  failed-as e h = record { fine = h .fine; is = ap (itemRun b script) e ∙ h .is }
-
   module _ (k : Unit {0} → Prog Bytes (Unit {0})) (h : Ran p s script t b r) where
     pub seq-failed : {f : Fault} {t1 : Step} → r ≡ Failed f t1 → Ran (p ▷ k) s script t b r
     seq-failed e =

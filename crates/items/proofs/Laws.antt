@@ -1,12 +1,11 @@
 -- What an item call of a given fate comes to: a law for each way out.
 use mathlib.Core.Path.{_≡_, refl, sym, ap, _∙_}
 use mathlib.Core.Bool.{Bool, true, false}
-use mathlib.Core.Option.{Option}
 use Prim.Native.Nat.{ℕ}
-use Rattle.definition.specs.Tools.{Bytes, pick}
+use Rattle.definition.specs.Tools.{Bytes}
 use Rattle.definition.specs.Region.{Item, good, roomIn, storeIn, removeIn, look}
 use Rattle.definition.specs.Script.{fate, stepped}
-use Rattle.definition.specs.Program.{Prog, World, world, Result, ok, bad, exec, ask, ran, done, flat, store, remove, fetch, step}
+use Rattle.definition.specs.Program.{World, world, ok, bad, exec, ask, ran, done, flat, store, remove, fetch, step}
 use Rattle.definition.proofs.Choices.{pick-no}
 use Rattle.definition.proofs.Running.{given, exec-ask}
 use Rattle.definition.specs.declared.Step.{Step}
@@ -14,7 +13,7 @@ use Rattle.definition.specs.declared.Fault.{Fault}
 use Rattle.definition.specs.declared.Fault.the-variants.{FullStorage}
 use Rattle.definition.specs.declared.Verdict.{Verdict}
 use Rattle.definition.specs.declared.Verdict.the-variants.{Pass, Fail}
-use Rattle.region.specs.Places.{spotted, Visit, Fetched}
+use Rattle.region.specs.Places.{Visit, Fetched}
 use Rattle.region.specs.Changes.{Now, Stores}
 use Rattle.region.proofs.Answers.{stored-done, stored-full}
 use Rattle.region.specs.declared.Stored.{Stored}

@@ -1,20 +1,17 @@
 -- The forms of contracts from the item calls up: what a function that was lent a region ran, and what it answers. They are indexed by the
 -- program, so that a caller's proof can go along its calls.
 use mathlib.Core.Path.{_≡_}
-use mathlib.Core.Bool.{Bool, true, false}
-use mathlib.Core.Option.{Option, none, some}
+use mathlib.Core.Bool.{true}
+use mathlib.Core.Option.{Option}
 use Prim.Native.Nat.{ℕ}
 use Rattle.definition.specs.Tools.{Bytes}
 use Rattle.definition.specs.Region.{good}
 use Rattle.definition.specs.Program.{Prog, World, world, Result, ok, bad, exec, flat, fetch, step}
 use Rattle.definition.specs.declared.Step.{Step}
-use Rattle.definition.specs.declared.Fault.{Fault}
 use Rattle.definition.specs.declared.Verdict.{Verdict}
 use Rattle.definition.specs.declared.Verdict.the-variants.{Pass, Fail}
 use Rattle.region.specs.Places.{spotted, InSpot, Visit}
-use Rattle.region.specs.declared.Spot.{Spot}
 use Rattle.region.specs.declared.Spot.the-variants as S
-use Rattle.region.specs.declared.Next.{Next}
 use Rattle.region.specs.declared.Next.the-variants as N
 use Rattle.definition.specs.declared.Fault.the-variants.{EngineBug}
 use Rattle.items.specs.declared.Failure.{Failure}

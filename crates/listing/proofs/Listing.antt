@@ -1,12 +1,11 @@
 -- The outcomes of the public scan, return by return.
-use mathlib.Core.Path.{_≡_, refl, sym, ap, _∙_, subst}
+use mathlib.Core.Path.{_≡_, ap, _∙_}
 use mathlib.Core.Bool.{Bool, true, false}
-use mathlib.Core.List.{List, []}
 use Prim.Native.Nat.{ℕ}
 use lib.ListN.{length}
 use Rattle.definition.specs.Tools.{Bytes}
 use Rattle.definition.specs.Codec.{laid}
-use Rattle.definition.specs.Region.{good, records}
+use Rattle.definition.specs.Region.{good}
 use Rattle.definition.specs.Program.{flat}
 use Rattle.definition.specs.Calls.{isPending}
 use Rattle.definition.specs.Scan.{rising, scanFrom, scan}
@@ -24,7 +23,7 @@ use Rattle.scan.specs.declared.Listing.{Listing}
 use Rattle.scan.specs.Forms.{scannedOf, Scans}
 use Rattle.gate.specs.declared.Converged.{Converged}
 use Rattle.gate.specs.declared.Converged.the-variants.{Ready, Failed}
-use Rattle.gate.specs.Forms.{Gate, Says, stateOf, unreadyOf}
+use Rattle.gate.specs.Forms.{Gate, stateOf, unreadyOf}
 use Rattle.gate.proofs.Saying.{public-bad, public-ready, public-unready}
 use Rattle.listing.specs.Forms.{listed, unlisted}
 

@@ -1,16 +1,15 @@
 -- What each way out of recovery says.
-use mathlib.Core.Path.{_≡_, refl, sym, ap, _∙_, subst}
+use mathlib.Core.Path.{_≡_, sym, ap, _∙_, subst}
 use mathlib.Core.Bool.{Bool, true, false}
-use mathlib.Core.Option.{Option, none, some}
-use Prim.Native.Nat.{ℕ, zero, suc, _+_, _-_, _/_, _≤_, _<_}
-use native.Mathlib.Omega.{arith}
+use mathlib.Core.Option.{Option}
+use Prim.Native.Nat.{ℕ, _-_, _/_}
 use lib.ListN.{length, take, drop}
 use lib.Dec.{ltb}
 use borrow.Author.Tests.{eq-eqb, ne-eqb}
-use Rattle.definition.specs.Tools.{Bytes, pick, opt}
+use Rattle.definition.specs.Tools.{Bytes, opt}
 use Rattle.definition.specs.Codec.{markerKey, markerOf}
 use Rattle.definition.specs.Region.{good}
-use Rattle.definition.specs.Program.{Prog, ret, err, see, onP, _▷_, flat, remove, fetch}
+use Rattle.definition.specs.Program.{Prog, flat, remove}
 use Rattle.definition.specs.Recovery.{tooMany, discard, replay, recoverBy, recover}
 use Rattle.definition.proofs.Choices.{pick-yes, pick-no}
 use Rattle.definition.specs.declared.Step.{Step}

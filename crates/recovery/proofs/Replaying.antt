@@ -1,15 +1,14 @@
 -- The replay of a journal: one turn of its loop, and its end.
-use mathlib.Core.Path.{_≡_, refl, sym, ap, _∙_}
-use mathlib.Core.Bool.{Bool, true, false}
-use Prim.Native.Nat.{ℕ, zero, suc, _+_, _-_, _≤_, _<_}
+use mathlib.Core.Path.{_≡_, sym, ap, _∙_}
+use mathlib.Core.Bool.{true}
+use Prim.Native.Nat.{ℕ, suc, _+_, _-_, _≤_, _<_}
 use native.Mathlib.Omega.{arith}
 use native.Mathlib.Numerals.{add-one}
 use native.Mathlib.Nat.{sub-zero}
-use lib.ListN.{length}
 use Rattle.definition.specs.Tools.{Bytes}
 use Rattle.definition.specs.Codec.{markerKey}
 use Rattle.definition.specs.Region.{good}
-use Rattle.definition.specs.Program.{Prog, err, onP, _▷_, flat, remove}
+use Rattle.definition.specs.Program.{err, _▷_, flat, remove}
 use Rattle.definition.specs.Recovery.{redo, replay}
 use Rattle.definition.specs.declared.Step.{Step}
 use Rattle.definition.specs.declared.Fault.{Fault}

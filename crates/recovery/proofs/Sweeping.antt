@@ -1,17 +1,15 @@
 -- The iteration over all items, and the dropping of journal items one by one.
 use mathlib.Core.Path.{_≡_, refl, sym, ap, _∙_, subst}
-use mathlib.Core.Bool.{Bool, true, false}
-use mathlib.Core.Option.{Option, none, some}
-use mathlib.Core.List.{List, [], _∷_}
-use Prim.Native.Nat.{ℕ, zero, suc, _+_, _≤_, _<_}
+use mathlib.Core.Bool.{true}
+use mathlib.Core.Option.{some}
+use mathlib.Core.List.{List}
+use Prim.Native.Nat.{ℕ, suc, _<_}
 use native.Mathlib.Omega.{arith}
 use lib.ListN.{length, take, drop}
-use Rattle.definition.specs.Tools.{Bytes, pick, eqs}
-use Rattle.definition.specs.Region.{Item, hasKey, removed, good, items}
-use Rattle.definition.specs.Program.{Prog, ret, err, see, onP, _▷_, world, ok, bad, flat, remove, step}
-use Rattle.definition.specs.Recovery.{iterate, dropEach, journalKeys, isJournal, discard}
-use Rattle.definition.proofs.Choices.{pick-yes, pick-no, bool}
-use Rattle.definition.proofs.Items.{has-its-key, key-of}
+use Rattle.definition.specs.Tools.{Bytes}
+use Rattle.definition.specs.Region.{Item, removed, good, items}
+use Rattle.definition.specs.Program.{err, _▷_, flat, remove, step}
+use Rattle.definition.specs.Recovery.{iterate, dropEach, journalKeys, discard}
 use Rattle.definition.proofs.Image.{remove-items}
 use Rattle.definition.specs.declared.Step.{Step}
 use Rattle.definition.specs.declared.Fault.{Fault}
@@ -26,9 +24,9 @@ use Rattle.items.specs.declared.ItemAnswer.{ItemAnswer}
 use Rattle.items.specs.declared.ItemAnswer.the-variants.{Done, Failed}
 use Rattle.items.specs.declared.NextAnswer.{NextAnswer}
 use Rattle.items.specs.declared.NextAnswer.the-variants as A
-use Rattle.items.specs.Forms.{Runs, Ran, itemRun, Visits, MetAt, stoppedOf}
+use Rattle.items.specs.Forms.{Ran, itemRun, Visits, MetAt, stoppedOf}
 use Rattle.items.proofs.Laws.{removed-is}
-use Rattle.items.proofs.Along.{Left, left-start, left-as, left-end, left-turn, left-else, ran-done, ran-runs, runs-ran, runs-ret, runs-err, runs-see, then-failed, done-ran, next-done, next-failed, seq-failed, seq-on}
+use Rattle.items.proofs.Along.{Left, left-start, left-as, left-end, left-turn, ran-done, ran-runs, runs-ran, runs-ret, runs-see, then-failed, done-ran, next-done, next-failed, seq-failed, seq-on}
 
 -- ---- the iteration
 

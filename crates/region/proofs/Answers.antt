@@ -2,14 +2,14 @@
 use mathlib.Core.Path.{_≡_, refl, sym, ap, _∙_, subst}
 use mathlib.Core.Bool.{Bool, true, false}
 use mathlib.Core.List.{[]}
-use mathlib.Core.Option.{none, some}
+use mathlib.Core.Option.{none}
 use Prim.Native.Nat.{ℕ}
 use native.Mathlib.Omega.{arith}
-use lib.ListN.{take, drop}
+use lib.ListN.{drop}
 use Rattle.definition.specs.Tools.{Bytes}
-use Rattle.definition.specs.Region.{Item, items, look, roomIn}
+use Rattle.definition.specs.Region.{Item, items, roomIn}
 use Rattle.definition.specs.Recovery.{journalKeys}
-use Rattle.region.specs.Places.{Met, AtPlace, Visit, spotted, Inside, InSpot, Fetched, FourInside, FourIn, firstOf, FirstJournal}
+use Rattle.region.specs.Places.{Met, AtPlace, Visit, spotted, FourInside, FourIn, firstOf, FirstJournal}
 use Rattle.region.specs.Changes.{storedBy, Stores}
 use Rattle.region.specs.declared.Next.{Next}
 use Rattle.region.specs.declared.Next.the-variants as N
@@ -25,23 +25,7 @@ module _ {s : Bytes} {at : ℕ} {r : Next} (h : Visit s at r) where
   pub met-nothing : r ≡ N.Nothing → items (drop at s) ≡ []
   met-nothing e = subst (AtPlace s at) e (h .is)
 
-module _ {s k : Bytes} {r : Spot} (h : Fetched s k r) where
-  pub fetched-some : {at n : ℕ} → r ≡ S.At at n → look k s ≡ some (take n (drop at s))
-  unfolding spotted
-  fetched-some e = sym (h .is) ∙ ap (spotted s) e
-
-  pub fetched-inside : {at n : ℕ} → r ≡ S.At at n → Inside s at n
-  fetched-inside e = subst (InSpot s) e (h .inside)
-
-  pub fetched-none : r ≡ S.Nothing → look k s ≡ none
-  unfolding spotted
-  fetched-none e = sym (h .is) ∙ ap (spotted s) e
-
 module _ {s : Bytes} {r : Spot} (h : FirstJournal s r) where
-  pub first-some : {at n : ℕ} → r ≡ S.At at n → firstOf (journalKeys (items s)) ≡ some (take n (drop at s))
-  unfolding spotted
-  first-some e = sym (h .is) ∙ ap (spotted s) e
-
   pub first-inside : {at n : ℕ} → r ≡ S.At at n → FourInside s at n
   first-inside e = subst (FourIn s) e (h .inside)
 

@@ -1,7 +1,7 @@
 -- A walk over the records, one a turn: what a visit of a place says, and what it makes of the items that are left.
 use mathlib.Core.Path.{_≡_, refl, sym, ap, ap₂, subst, _∙_}
 use mathlib.Core.Bool.{Bool, true, false}
-use mathlib.Core.List.{List, [], _∷_, _++_, append-assoc, append-nil}
+use mathlib.Core.List.{List, [], _∷_}
 use Prim.Native.Nat.{ℕ, _+_}
 use native.Mathlib.Nat.{add-assoc, add-zero}
 use native.Mathlib.Omega.{arith}
@@ -13,9 +13,8 @@ use Rattle.definition.specs.declared.Head.{Head}
 use Rattle.definition.specs.declared.Head.the-variants.{Record, End, Bad}
 use Rattle.definition.proofs.Choices.{pick-yes, pick-no, bool}
 use Rattle.definition.proofs.Records.{span-holds, bounded, record-sound, head-end, end-blank}
-use Rattle.definition.proofs.Items.{used-append}
 use Rattle.definition.proofs.Image.{items-record, whole-record, whole-end, whole-bad}
-use Rattle.region.specs.Places.{keyAt, valueAt, Met, Walk, placeOf}
+use Rattle.region.specs.Places.{keyAt, valueAt, Met, placeOf}
 use Rattle.region.specs.declared.Found.the-variants as F
 
 -- ---- a visit
@@ -118,26 +117,3 @@ used-stop s at e = ap (λ (l : List Item). at + used l) e ∙ add-zero at
 
 pub count-stop : (s : Bytes) (at n : ℕ) → items (drop at s) ≡ [] → n + length (items (drop at s)) ≡ n
 count-stop s at n e = ap (λ (l : List Item). n + length l) e ∙ add-zero n
-
--- ---- the whole walk
-
-pub walk-start : (s : Bytes) → Walk s [] 0 (items s)
-unfolding used
-walk-start s = record { all = refl; from = refl; place = refl }
-
-module _ {s : Bytes} {seen left : List Item} {at : ℕ} (w : Walk s seen at left) where
-  pub walk-on : {k v n : ℕ} → Met s at k v n → Walk s (seen ++ (item (keyAt s at k) (valueAt s at k v) ∷ [])) n (items (drop n s))
-  unfolding used
-  walk-on {k} {v} {n} m =
-      let i : Item = item (keyAt s at k) (valueAt s at k v) in
-      let e = met-span m in
-      let f = m .next-is in
-      let p = w .place in
-      record {
-        all = w .all ∙ ap (λ (l : List Item). seen ++ l) (sym (w .from) ∙ m .left) ∙ sym (append-assoc seen (i ∷ []) (items (drop n s)));
-        from = refl;
-        place = omega (arith, used-append seen (i ∷ []));
-      }
-
-  pub walk-over : items (drop at s) ≡ [] → items s ≡ seen
-  walk-over e = w .all ∙ ap (λ (l : List Item). seen ++ l) (sym (w .from) ∙ e) ∙ append-nil seen

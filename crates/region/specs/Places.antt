@@ -1,12 +1,12 @@
 -- Places in a region's bytes: what stands there, where the record with a key stands, and what lies in a part of the bytes. Document 01's items
 -- are reached through them, so that a caller needs no byte of a record.
 use mathlib.Core.Path.{_≡_}
-use mathlib.Core.List.{List, [], _∷_, _++_}
+use mathlib.Core.List.{List, [], _∷_}
 use mathlib.Core.Option.{Option, none, some}
 use Prim.Native.Nat.{ℕ, _+_, _≤_}
 use lib.ListN.{length, take, drop}
 use Rattle.definition.specs.Tools.{Bytes, pick}
-use Rattle.definition.specs.Region.{Item, item, hasKey, headSize, keyLimit, itemLimit, span, spanOf, headOf, items, used, look}
+use Rattle.definition.specs.Region.{Item, item, hasKey, headSize, keyLimit, itemLimit, span, spanOf, headOf, items, look}
 use Rattle.definition.specs.Recovery.{journalKeys}
 use Rattle.definition.specs.declared.Head.the-variants.{Record}
 use Rattle.region.specs.declared.Next.{Next}
@@ -42,12 +42,6 @@ AtPlace s at N.Nothing = items (drop at s) ≡ []
 
 pub record Visit (s : Bytes) (at : ℕ) (r : Next) : Type 0 where
   pub is : AtPlace s at r
-
--- a walk over the records of s stands at `at`, with `seen` behind it and `left` before it
-pub record Walk (s : Bytes) (seen : List Item) (at : ℕ) (left : List Item) : Type 0 where
-  pub all : items s ≡ seen ++ left
-  pub from : items (drop at s) ≡ left
-  pub place : at ≡ used seen
 
 -- ---- the record with a key, the first of the items standing at `at`
 

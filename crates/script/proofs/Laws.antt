@@ -1,16 +1,16 @@
 -- What each return of the script's functions says, over plain variables.
-use mathlib.Core.Path.{_≡_, refl, sym, ap, _∙_}
+use mathlib.Core.Path.{_≡_, sym, ap, _∙_}
 use mathlib.Core.Bool.{Bool, true, false}
 use Prim.Native.Nat.{ℕ, _+_, _%_, _<_, _≤_}
 use lib.ListN.{length, getD}
 use lib.Dec.{eqb, leb}
 use borrow.Author.Tests.{ne-eqb, lt-ltb, le-ltb}
-use Rattle.definition.specs.Tools.{Bytes, pick}
+use Rattle.definition.specs.Tools.{Bytes}
 use Rattle.definition.specs.Script.{stepped, counted, byteFate, faultOf, cutCode}
-use Rattle.definition.proofs.Choices.{passed, pick-yes, pick-no}
+use Rattle.definition.proofs.Choices.{pick-yes, pick-no}
 use Rattle.definition.specs.declared.Step.{Step}
 use Rattle.definition.specs.declared.Fault.{Fault}
-use Rattle.definition.specs.declared.Verdict.the-variants.{Pass, Fail}
+use Rattle.definition.specs.declared.Verdict.the-variants.{Fail}
 
 pub byte-fails : (b : ℕ) {f : Fault} → f ≡ faultOf (b % 128) → (b % 128 ≡ 0 → ⊥) → Fail f (leb 128 b) ≡ byteFate b
 unfolding byteFate

@@ -1,18 +1,18 @@
 -- How the proofs of get, contains and delete go along their calls.
 use mathlib.Core.Path.{_≡_, refl, sym, ap, _∙_, subst}
-use mathlib.Core.Bool.{Bool, true, false}
+use mathlib.Core.Bool.{true}
 use mathlib.Core.Option.{Option, none, some}
-use mathlib.Core.List.{List, []}
-use Prim.Native.Nat.{ℕ, _+_, _<_, _≤_}
+use mathlib.Core.List.{[]}
+use Prim.Native.Nat.{ℕ, _<_, _≤_}
 use native.Mathlib.Omega.{arith}
 use lib.ListN.{length, take, drop, length-drop}
 use lib.Seq.{length-take-le}
 use borrow.Author.Tests.{lt-ltb, le-ltb}
-use Rattle.definition.specs.Tools.{Bytes, pick, opt}
+use Rattle.definition.specs.Tools.{Bytes, opt}
 use Rattle.definition.specs.Codec.{laid}
 use Rattle.definition.specs.Region.{good}
-use Rattle.definition.specs.Program.{Prog, onP, world, ok, bad, flat, fetch, remove}
-use Rattle.definition.specs.Calls.{Said, said, say, hand, getKey, containsKey, deleteKey, deleteFound}
+use Rattle.definition.specs.Program.{Prog, onP, flat, fetch, remove}
+use Rattle.definition.specs.Calls.{Said, say, hand, getKey, containsKey, deleteKey, deleteFound}
 use Rattle.definition.proofs.Choices.{pick-yes, pick-no}
 use Rattle.definition.specs.declared.Step.{Step}
 use Rattle.definition.specs.declared.State.{State}
@@ -25,7 +25,7 @@ use Rattle.definition.specs.declared.GetReply.{GetReply}
 use Rattle.definition.specs.declared.TruthAnswer.{TruthAnswer}
 use Rattle.definition.specs.declared.TruthAnswer.the-variants as T
 use Rattle.definition.specs.Public.{outcome}
-use Rattle.region.specs.Places.{spotted, Inside}
+use Rattle.region.specs.Places.{spotted}
 use Rattle.region.specs.declared.Spot.{Spot}
 use Rattle.region.specs.declared.Spot.the-variants.{At, Nothing}
 use Rattle.items.specs.declared.Failure.{Failure}

@@ -2,13 +2,13 @@
 use mathlib.Core.Path.{_≡_, refl, sym, ap, _∙_, subst}
 use mathlib.Core.Bool.{Bool, true, false}
 use mathlib.Core.Option.{Option, none, some}
-use mathlib.Core.List.{List, []}
+use mathlib.Core.List.{[]}
 use Prim.Native.Nat.{ℕ}
 use lib.ListN.{length}
-use Rattle.definition.specs.Tools.{Bytes, pick, opt}
+use Rattle.definition.specs.Tools.{Bytes, pick}
 use Rattle.definition.specs.Codec.{laid, reserved, longKey}
 use Rattle.definition.specs.Region.{good}
-use Rattle.definition.specs.Program.{Prog, onP, flat}
+use Rattle.definition.specs.Program.{Prog, flat}
 use Rattle.definition.specs.Recovery.{recover}
 use Rattle.definition.specs.Calls.{Said, say, regionFault}
 use Rattle.definition.specs.Calls as C
@@ -23,7 +23,6 @@ use Rattle.definition.specs.declared.Health.the-variants.{Clean, Pending}
 use Rattle.definition.specs.declared.State.{State}
 use Rattle.definition.specs.declared.TruthAnswer.{TruthAnswer}
 use Rattle.definition.specs.declared.TruthAnswer.the-variants as T
-use Rattle.definition.specs.declared.Answer.{Answer}
 use Rattle.definition.specs.declared.Answer.the-variants.{Ok, Refused}
 use Rattle.codec.specs.declared.Checked.{Checked}
 use Rattle.codec.specs.declared.Checked.the-variants as K

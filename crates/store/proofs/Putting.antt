@@ -1,13 +1,12 @@
 -- How a put's proof goes along its calls.
-use mathlib.Core.Path.{_≡_, refl, sym, ap, _∙_, subst}
+use mathlib.Core.Path.{_≡_, sym, ap, _∙_, subst}
 use mathlib.Core.Bool.{Bool, true, false}
-use mathlib.Core.Option.{Option, none, some}
-use mathlib.Core.List.{List, []}
+use mathlib.Core.List.{[]}
 use Prim.Native.Nat.{ℕ}
-use Rattle.definition.specs.Tools.{Bytes, pick, opt}
+use Rattle.definition.specs.Tools.{Bytes}
 use Rattle.definition.specs.Region.{item, good}
-use Rattle.definition.specs.Program.{Prog, onP, world, ok, bad, flat, store}
-use Rattle.definition.specs.Calls.{Said, say, gate, putFault, putOr, putOnce, putAgain}
+use Rattle.definition.specs.Program.{Prog, onP, flat, store}
+use Rattle.definition.specs.Calls.{Said, say, putFault, putOr, putOnce, putAgain}
 use Rattle.definition.proofs.Choices.{pick-yes, pick-no, opt-none, opt-some}
 use Rattle.definition.specs.declared.Step.{Step}
 use Rattle.definition.specs.declared.State.{State}
@@ -27,7 +26,7 @@ use Rattle.items.proofs.Along.{ran-done, ran-failed}
 use Rattle.gate.specs.declared.Converged.{Converged}
 use Rattle.gate.specs.declared.Converged.the-variants as C
 use Rattle.gate.specs.Forms.{Says, Gate, stateOf, unreadyOf}
-use Rattle.gate.proofs.Saying.{says-as, says-ret, says-on, says-else, says-failed, says-ready, says-not-ready}
+use Rattle.gate.proofs.Saying.{says-as, says-ret, says-on, says-else, says-ready, says-not-ready}
 use Rattle.store.specs.Forms.{retried}
 
 module _ {k v : Bytes} (h : Health) (otherwise : Fault → Prog Bytes (Said Answer)) {s script : Bytes} {t : Step} {c : Checked} (x : Checks (putFault k v) k v c) where

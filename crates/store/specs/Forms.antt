@@ -1,8 +1,6 @@
 -- The forms of the store's inner contracts.
 use mathlib.Core.Path.{_≡_}
-use mathlib.Core.Bool.{Bool, true, false}
-use mathlib.Core.List.{List, []}
-use Prim.Native.Nat.{ℕ}
+use mathlib.Core.Bool.{Bool, false}
 use Rattle.definition.specs.Tools.{Bytes, pick}
 use Rattle.definition.specs.Codec.{laid}
 use Rattle.definition.specs.Program.{Prog, flat}

@@ -1,19 +1,20 @@
 -- The laws that the functions' proofs cite, over plain variables: spaces, digits, and what is held of a line.
 use mathlib.Core.Path.{_≡_, refl, sym, ap, _∙_, subst}
 use mathlib.Core.Bool.{Bool, true, false}
-use mathlib.Core.List.{List, [], _∷_, _++_, append-assoc, append-nil}
+use mathlib.Core.List.{[], _∷_}
 use Prim.Native.Nat.{ℕ, suc, _+_, _-_, _*_, _/_, _^_, _≤_, _<_}
-use native.Mathlib.Nat.{add-zero}
 use native.Mathlib.Numerals.{add-one}
 use native.Mathlib.Omega.{arith}
-use lib.Dec.{T, eqb, leb, ltb}
+use lib.Dec.{T, eqb, ltb}
 use borrow.Author.Tests.{eq-eqb, ne-eqb, le-leb, lt-leb, lt-ltb, le-ltb}
-use lib.ListN.{length, getD, take, drop, set, drop-of-length-le, length-set, length-drop}
-use lib.Seq.{drop-cons, take-suc, take-suc-set, take-all, length-take-le}
+use lib.ListN.{length, getD, take, drop, drop-of-length-le, length-drop}
+use lib.Seq.{drop-cons, take-all, length-take-le}
 use Rattle.definition.specs.Tools.{Bytes, pick}
 use Rattle.definition.proofs.Choices.{pick-yes, pick-no}
 use Rattle.text.specs.Words.{upTo, Finds, spaces, Skips, NextWord, InBuffer, Fills}
 use Rattle.text.specs.Numerals.{among, numeralFrom, numeralOf, digitOf, Small, joined, pairOf}
+use Rattle.slices.specs.Written.{written}
+use Rattle.slices.proofs.Copying.{take-written}
 use Rattle.text.specs.Lines.{holdsAll, Holds, Ended, Last, LineRead}
 use Rattle.text.specs.declared.Filled.{Filled}
 use Rattle.text.specs.declared.Filled.the-variants.{To}
@@ -21,7 +22,6 @@ use Rattle.text.specs.declared.Held.{Held}
 use Rattle.text.specs.declared.Unread.{Unread}
 use Rattle.text.specs.declared.LineAnswer.{LineAnswer}
 use Rattle.text.specs.declared.LineKind.the-variants.{Whole, TooLong, Over}
-use Rattle.text.specs.declared.Numeral.{Numeral}
 use Rattle.text.specs.declared.Numeral.the-variants as N
 use Rattle.text.specs.declared.Hex.{Hex}
 use Rattle.text.specs.declared.Hex.the-variants as H
@@ -250,39 +250,6 @@ module _ (s : Bytes) (two : length s ≡ 2) {h : Hex} (e : h ≡ digitOf (getD s
     unfolding joined
     pair-both u = sym (pair-value ∙ ap (joined (H.Value v)) u)
 
--- ---- bytes written at a place
-
--- after i turns r is d with i bytes of p at `at`
-pub record Laid (d p : Bytes) (at i : ℕ) (r : Bytes) : Type 0 where
-  pub long : length r ≡ length d
-  pub most : i ≤ length p
-  pub is : take (at + i) r ≡ take at d ++ take i p
-
-pub laid-none : (d p : Bytes) (at : ℕ) → Laid d p at 0 d
-laid-none d p at = record { long = refl; most = omega arith; is = simp (add-zero, append-nil) }
-
-module _ {d p r : Bytes} {at i : ℕ} (l : Laid d p at i r) where
-  pub laid-more : at + i < length d → i < length p → Laid d p at (i + 1) (set r (at + i) (getD p i 0))
-  laid-more h k =
-      let e = l .long in
-      let x : ℕ = getD p i 0 in
-      let a : at + (i + 1) ≡ suc (at + i) = omega arith in
-      let b : i + 1 ≡ suc i = add-one i in
-      record {
-        long = length-set r (at + i) x ∙ e;
-        most = omega arith;
-        is =
-            rw (a, b)
-            (take-suc-set r (at + i) x (omega arith) ∙ ap (λ (y : Bytes). y ++ (x ∷ [])) (l .is) ∙ append-assoc (take at d) (take i p) (x ∷ [])
-            ∙ ap (λ (y : Bytes). take at d ++ y) (sym (take-suc p i 0 k)));
-      }
-
-  pub laid-all : length p ≤ i → take (at + length p) r ≡ take at d ++ p
-  laid-all h =
-      let m = l .most in
-      let e : i ≡ length p = omega arith in
-      rw (← e) (l .is ∙ ap (λ (y : Bytes). take at d ++ y) (take-all i p h))
-
 -- ---- what is held of a line
 
 no : {b : Bool} {A : Type 0} → b ≡ false → b ≡ true → A
@@ -304,12 +271,12 @@ module _ (line p : Bytes) (h : Held) (inside : h .len ≤ length line) where
 
     -- one with room for p
     pub holds-more : {after : Bytes} → length p ≤ length line - h .len → length after ≡ length line
-        → take (h .len + length p) after ≡ take (h .len) line ++ p
+        → after ≡ written line (h .len) p
         → Holds line h p after (record { len = h .len + length p; fits = true })
     unfolding holdsAll
     holds-more k l f =
         let m : h .len + length p ≤ length line = omega arith in
-        record { long = l; inside = m; fits = sym (pick-yes _ _ e ∙ le-leb _ _ m); is = λ _. f }
+        record { long = l; inside = m; fits = sym (pick-yes _ _ e ∙ le-leb _ _ m); is = λ _. ap (take (h .len + length p)) f ∙ take-written line (h .len) p inside }
 
 -- ---- how a line ended
 

@@ -1,7 +1,7 @@
 -- The laws of the bytes that wait: one byte more, the loops over bytes, and a number's digits.
 use mathlib.Core.Path.{_≡_, refl, sym, ap, _∙_}
-use mathlib.Core.List.{List, [], _∷_, _++_}
-use Prim.Native.Nat.{ℕ, zero, suc, _+_, _-_, _*_, _/_, _%_, _^_, _≤_, _<_}
+use mathlib.Core.List.{[], _∷_, _++_}
+use Prim.Native.Nat.{ℕ, zero, suc, _+_, _-_, _/_, _%_, _^_, _≤_, _<_}
 use native.Mathlib.Nat.{pow-suc, pow-le-pow-right}
 use native.Mathlib.Numerals.{add-one, sub-one}
 use native.Mathlib.Omega.{arith}
@@ -9,7 +9,7 @@ use borrow.Author.Tests.{lt-ltb, le-ltb}
 use lib.ListN.{length, getD, drop, set, drop-of-length-le}
 use lib.Seq.{drop-cons}
 use Rattle.io.specs.Digits.{glyph, digits, Fewest}
-use Rattle.definition.specs.Tools.{Bytes, pick}
+use Rattle.definition.specs.Tools.{Bytes}
 use Rattle.definition.proofs.Choices.{pick-yes, pick-no}
 use Rattle.text.specs.Waiting.{Waiting, waits, addByte, addBytes, decimalIn, decimalOf, hexOf}
 

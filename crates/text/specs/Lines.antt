@@ -1,9 +1,9 @@
 -- Lines of the input: what is held of one, and where the bytes behind it wait.
 use mathlib.Core.Path.{_≡_}
 use mathlib.Core.Bool.{Bool, true, false}
-use mathlib.Core.List.{List, [], _∷_, _++_}
-use Prim.Native.Nat.{ℕ, _+_, _≤_}
-use lib.ListN.{length, take, drop}
+use mathlib.Core.List.{_++_}
+use Prim.Native.Nat.{_+_, _≤_}
+use lib.ListN.{length, take}
 use lib.Dec.{leb, eqb}
 use Rattle.definition.specs.Tools.{Bytes, pick}
 use Rattle.text.specs.declared.Held.{Held}

@@ -1,7 +1,7 @@
 -- Numbers in text: decimal numbers of at most 64 bits, and bytes in two hex digits.
 use mathlib.Core.Path.{_≡_}
-use mathlib.Core.Bool.{Bool, true, false}
-use mathlib.Core.List.{List, [], _∷_}
+use mathlib.Core.Bool.{Bool, false}
+use mathlib.Core.List.{[], _∷_}
 use Prim.Native.Nat.{ℕ, _+_, _-_, _*_, _^_, _<_}
 use lib.Dec.{leb, ltb}
 use Rattle.definition.specs.Tools.{Bytes, pick}

@@ -1,7 +1,6 @@
 -- The words of a line: runs of bytes that are no space, with spaces between them.
 use mathlib.Core.Path.{_≡_}
-use mathlib.Core.Bool.{Bool, true, false}
-use mathlib.Core.List.{List, [], _∷_}
+use mathlib.Core.List.{[], _∷_}
 use Prim.Native.Nat.{ℕ, suc, _+_, _≤_}
 use lib.ListN.{length, drop}
 use lib.Dec.{eqb}

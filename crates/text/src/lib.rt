@@ -2,7 +2,6 @@
 use libc::STDIN_FILENO;
 use libc::STDOUT_FILENO;
 ghost use mathlib.Core.Path.{_≡_};
-ghost use mathlib.Core.List.{_++_};
 ghost use Prim.Native.Nat.{_+_, _-_, _≤_, _<_};
 ghost use lib.ListN.{length, take, drop};
 ghost use Rattle.io.specs.Digits.{digits};
@@ -262,18 +261,6 @@ struct Held {
     fits: bool,
 }
 
-// Writes bytes at a place.
-fn write_at(line: &mut [u8], at: usize, part: &[u8])
-    requires { ⌜ at + length (now part) ≤ length (now line) ⌝ }
-    ensures { λ _. ⌜ take (at + length (now (part .entry))) (now (line .exit)) ≡ take at (now (line .entry)) ++ now (part .entry) ⌝ }
-{
-    let mut i: usize = 0;
-    while i < part.len() {
-        line[at + i] = part[i];
-        i += 1;
-    }
-}
-
 // Holds some more bytes of a line, if they fit behind those that are held.
 fn hold(line: &mut [u8], held: Held, part: &[u8]) -> Held
     requires { ⌜ held .len ≤ length (now line) ⌝ }
@@ -289,7 +276,7 @@ fn hold(line: &mut [u8], held: Held, part: &[u8]) -> Held
             fits: false,
         };
     }
-    write_at(line, len, part);
+    slices::copy_in(line, len, part);
     Held {
         len: len + part.len(),
         fits: true,

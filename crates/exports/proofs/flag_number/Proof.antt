@@ -1,5 +1,4 @@
-use mathlib.Core.Path.{_≡_, refl, sym, ap, ap₂, _∙_}
-use Prim.Native.Nat.{ℕ}
+use mathlib.Core.Path.{sym, ap}
 use Rattle.exports.specs.Forms.{flagNumber}
 use Rattle.exports.proofs.flag_number.Statement.{statement}
 use Rattle.exports.proofs.flag_number.Tie as tie

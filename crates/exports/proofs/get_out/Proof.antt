@@ -1,5 +1,4 @@
-use mathlib.Core.Path.{_≡_, refl, sym, ap, ap₂, _∙_}
-use Prim.Native.Nat.{ℕ}
+use mathlib.Core.Path.{sym, ap, _∙_}
 use Rattle.exports.specs.Forms.{getOut}
 use Rattle.definition.specs.declared.GetAnswer.{GetAnswer}
 use borrow.Author.Needs.{needs}

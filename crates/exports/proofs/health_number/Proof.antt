@@ -1,5 +1,4 @@
-use mathlib.Core.Path.{_≡_, refl, sym, ap, ap₂, _∙_}
-use Prim.Native.Nat.{ℕ}
+use mathlib.Core.Path.{sym, ap}
 use Rattle.exports.specs.Forms.{healthNumber}
 use borrow.Author.Needs.{needs}
 use Rattle.exports.proofs.health_number.Statement.{statement}

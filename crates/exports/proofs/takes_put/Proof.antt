@@ -2,8 +2,7 @@ use Rattle.exports.proofs.Crossing.{replies}
 use Rattle.definition.specs.declared.State.{State}
 use Rattle.definition.specs.Public as P
 use denote.Ref.{now}
-use mathlib.Core.Path.{_≡_, refl, sym, ap, ap₂, _∙_}
-use Prim.Native.Nat.{ℕ}
+use mathlib.Core.Path.{ap, _∙_}
 use borrow.Author.Needs.{needs}
 use Rattle.exports.proofs.takes_put.Statement.{statement}
 use Rattle.exports.proofs.takes_put.Tie as tie

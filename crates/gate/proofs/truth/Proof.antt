@@ -1,7 +1,5 @@
-use mathlib.Core.Path.{_≡_, refl, sym, ap, _∙_}
-use Rattle.gate.specs.Forms.{truthOf}
+use mathlib.Core.Path.{ap}
 use Rattle.definition.specs.declared.State.{State}
-use Rattle.definition.specs.declared.TruthReply.{TruthReply}
 use borrow.Author.Needs.{needs}
 use Rattle.gate.proofs.truth.Statement.{statement}
 use Rattle.gate.proofs.truth.Tie as tie

@@ -1,4 +1,4 @@
-use mathlib.Core.Path.{_≡_, refl, sym, ap, _∙_}
+use mathlib.Core.Path.{sym, ap}
 use Rattle.gate.specs.Forms.{unconvergedOf}
 use borrow.Author.Needs.{needs}
 use Rattle.gate.proofs.unconverged.Statement.{statement}

@@ -1,5 +1,4 @@
 use mathlib.Core.Path.{sym, ap}
-use Rattle.items.specs.declared.NextAnswer.{NextAnswer}
 use Rattle.items.specs.Forms.{stoppedOf}
 use borrow.Author.Needs.{needs}
 use Rattle.items.proofs.stopped.Statement.{statement}

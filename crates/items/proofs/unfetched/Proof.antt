@@ -1,5 +1,4 @@
 use mathlib.Core.Path.{sym, ap}
-use Rattle.items.specs.declared.FetchAnswer.{FetchAnswer}
 use Rattle.items.specs.Forms.{unfetchedOf}
 use borrow.Author.Needs.{needs}
 use Rattle.items.proofs.unfetched.Statement.{statement}

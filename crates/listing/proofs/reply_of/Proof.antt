@@ -1,6 +1,5 @@
-use mathlib.Core.Path.{_≡_, refl, sym, ap, _∙_}
+use mathlib.Core.Path.{ap}
 use Rattle.definition.specs.declared.State.{State}
-use Rattle.definition.specs.declared.ScanReply.{ScanReply}
 use Rattle.scan.specs.Forms.{scannedOf}
 use borrow.Author.Needs.{needs}
 use Rattle.listing.proofs.reply_of.Statement.{statement}

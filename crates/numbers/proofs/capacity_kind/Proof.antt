@@ -1,4 +1,4 @@
-use mathlib.Core.Path.{_≡_, refl, sym, ap, _∙_}
+use mathlib.Core.Path.{sym, ap}
 use Rattle.definition.specs.Numbers.{capacityKind}
 use borrow.Author.Needs.{needs}
 use Rattle.numbers.proofs.capacity_kind.Statement.{statement}

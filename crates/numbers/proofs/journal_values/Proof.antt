@@ -1,4 +1,4 @@
-use mathlib.Core.Path.{_≡_, refl, sym, ap, _∙_}
+use mathlib.Core.Path.{sym, ap}
 use Rattle.numbers.specs.Forms.{journalThree}
 use Rattle.definition.specs.Numbers.{journalValues}
 use borrow.Author.Needs.{needs}

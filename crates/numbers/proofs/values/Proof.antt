@@ -1,4 +1,4 @@
-use mathlib.Core.Path.{_≡_, refl, sym, ap, _∙_}
+use mathlib.Core.Path.{sym, ap, _∙_}
 use Prim.Native.Nat.{ℕ}
 use Rattle.numbers.specs.Forms.{threeOf, valuesThree, serializationThree, journalThree}
 use Rattle.definition.specs.Numbers.{values}

@@ -2,8 +2,8 @@ use borrow.Author.Needs.{needs}
 use Rattle.recovery.proofs.Sweeping.{Dropping, dropping-start, dropped-all, drop-failed, drop-on, drop-less}
 use Rattle.region.proofs.Answers.{first-inside}
 use Rattle.recovery.proofs.Entries.{copied-length}
-use Prim.Native.Nat.{ℕ, _+_, _-_, _≤_}
-use mathlib.Core.Path.{_≡_, refl, sym, ap}
+use Prim.Native.Nat.{_-_}
+use mathlib.Core.Path.{_≡_, refl}
 use native.Mathlib.Omega.{arith}
 use lib.ListN.{length}
 use Rattle.definition.specs.Region.{items}

@@ -1,7 +1,6 @@
 use borrow.Author.Needs.{needs}
 use Rattle.recovery.proofs.Sweeping.{Iterating, iterating-start, not-opened, opened, iterate-failed, iterate-over, iterate-met, iterate-on}
-use Prim.Native.Nat.{ℕ, _+_, _-_, _≤_}
-use mathlib.Core.Path.{_≡_, refl, sym, ap}
+use Prim.Native.Nat.{_-_, _≤_}
 use native.Mathlib.Omega.{arith}
 use lib.ListN.{length}
 use Rattle.recovery.proofs.iterate_all.Statement.{statement}

@@ -1,10 +1,7 @@
 use borrow.Author.Needs.{needs}
 use Rattle.recovery.proofs.Recovering.{recover-missed, recover-none, recover-some}
 use Rattle.items.proofs.Along.{fetch-inside}
-use Prim.Native.Nat.{ℕ, _+_, _-_, _≤_}
-use mathlib.Core.Path.{_≡_, refl, sym, ap}
-use native.Mathlib.Omega.{arith}
-use lib.ListN.{length}
+use Prim.Native.Nat.{_-_}
 use Rattle.recovery.proofs.recover.Statement.{statement}
 use Rattle.recovery.proofs.recover.Tie as tie
 

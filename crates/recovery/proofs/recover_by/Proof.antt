@@ -2,10 +2,8 @@ use mathlib.Core.Path.{subst}
 use Rattle.codec.specs.Forms.{Short}
 use borrow.Author.Needs.{needs}
 use Rattle.recovery.proofs.Recovering.{unread-failed, unread-on, count-refused, count-on}
-use Prim.Native.Nat.{ℕ, _+_, _-_, _≤_}
-use mathlib.Core.Path.{_≡_, refl, sym, ap}
+use Prim.Native.Nat.{_-_}
 use native.Mathlib.Omega.{arith}
-use lib.ListN.{length}
 use Rattle.recovery.proofs.recover_by.Statement.{statement}
 use Rattle.recovery.proofs.recover_by.Tie as tie
 

@@ -1,9 +1,7 @@
 use Rattle.recovery.proofs.Entries.{redo-failed, redo-absent, redo-present, copied-length}
 use Rattle.items.proofs.Along.{fetch-inside}
-use Prim.Native.Nat.{ℕ, _+_, _-_, _≤_}
-use mathlib.Core.Path.{_≡_, refl, sym, ap}
+use Prim.Native.Nat.{_-_}
 use native.Mathlib.Omega.{arith}
-use lib.ListN.{length}
 use borrow.Author.Needs.{needs}
 use Rattle.recovery.proofs.redo.Statement.{statement}
 use Rattle.recovery.proofs.redo.Tie as tie

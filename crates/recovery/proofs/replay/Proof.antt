@@ -1,10 +1,8 @@
 use borrow.Author.Needs.{needs}
 use Rattle.recovery.proofs.Replaying.{Replaying, replay-start, replay-on, replay-failed, replay-end}
-use Prim.Native.Nat.{ℕ, _+_, _-_, _≤_}
-use mathlib.Core.Path.{_≡_, refl, sym, ap}
-use native.Mathlib.Omega.{arith}
+use Prim.Native.Nat.{_-_, _≤_}
+use mathlib.Core.Path.{_≡_, refl}
 use lib.ListN.{length}
-use Rattle.definition.specs.Codec.{markerKey}
 use Rattle.recovery.proofs.replay.Statement.{statement}
 use Rattle.recovery.proofs.replay.Tie as tie
 

@@ -2,7 +2,7 @@ use Rattle.definition.specs.Public.{get, outcome}
 use Rattle.definition.specs.Public.{get}
 use Rattle.definition.specs.Calls as C
 use Rattle.definition.specs.Codec.{laid}
-use mathlib.Core.Path.{_≡_, refl, sym, ap, _∙_}
+use mathlib.Core.Path.{sym, ap, _∙_}
 use borrow.Author.Tests.{not-true, not-false}
 use Rattle.gate.proofs.Saying.{public-bad, public-ready, public-unready, says-as, says-ret}
 use Rattle.store.proofs.Finding.{get-outcome}

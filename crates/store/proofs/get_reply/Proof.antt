@@ -1,6 +1,5 @@
-use mathlib.Core.Path.{_≡_, refl, sym, ap, _∙_}
+use mathlib.Core.Path.{ap}
 use Rattle.definition.specs.declared.State.{State}
-use Rattle.definition.specs.declared.GetReply.{GetReply}
 use borrow.Author.Needs.{needs}
 use Rattle.store.proofs.get_reply.Statement.{statement}
 use Rattle.store.proofs.get_reply.Tie as tie

@@ -1,6 +1,6 @@
 use Rattle.store.proofs.Mounting.{mount-refused, mount-bad, mount-failed, mount-done}
 use Rattle.gate.proofs.Saying.{reply-outcome}
-use mathlib.Core.Path.{_≡_, refl, sym, ap, _∙_}
+use mathlib.Core.Path.{sym, _∙_}
 use borrow.Author.Tests.{not-true, not-false}
 use borrow.Author.Needs.{needs}
 use Rattle.store.proofs.mount.Statement.{statement}

@@ -1,4 +1,3 @@
-use native.Mathlib.Omega.{arith}
 use Rattle.text.proofs.Laws.{digit-decimal, digit-capital, digit-letter, digit-low, digit-colon, digit-bracket, digit-high}
 use borrow.Author.Needs.{needs}
 use Rattle.text.proofs.digit.Statement.{statement}

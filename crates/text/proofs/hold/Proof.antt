@@ -13,8 +13,8 @@ sub-if2 c = search needs
 returns-2 : tie.Need-returns-2
 returns-2 c = holds-no-more _ _ _ (c .before .before .before .before .before .pre) (not-false _ (c .before .if1 .left)) (c .if2 .taken)
 
-write-at-requires : tie.Need-write-at-requires
-write-at-requires c κs = search needs
+copy-in-requires : tie.Need-copy-in-requires
+copy-in-requires c κs = search needs
 
 add-t7 : tie.Need-add-t7
 add-t7 c = search needs
@@ -26,8 +26,8 @@ returns-3 : tie.Need-returns-3
 returns-3 c =
     holds-more _ _ _ (c .before .before .before .before .before .before .before .before .before .pre)
     (not-false _ (c .before .before .before .before .before .if1 .left)) (c .before .before .before .before .if2 .left) (search needs)
-    (c .before .before .write-at .ensures)
+    (c .before .before .copy-in .ensures)
 
 pub hold-spec : {M : Type 1} → statement M
 hold-spec =
-    tie.close (tie.spec returns sub-if2 returns-2 write-at-requires add-t7 same-length returns-3)
+    tie.close (tie.spec returns sub-if2 returns-2 copy-in-requires add-t7 same-length returns-3)

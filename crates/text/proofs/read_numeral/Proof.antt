@@ -1,6 +1,5 @@
 use borrow.Author.Needs.{needs}
 use Prim.Native.Nat.{_-_}
-use native.Mathlib.Omega.{arith}
 use lib.ListN.{length}
 use Rattle.text.proofs.Laws.{Reading, no-digits, reading-none, reading-over, reading-low, reading-high, reading-large, reading-more}
 use Rattle.text.proofs.read_numeral.Statement.{statement}

@@ -1,5 +1,5 @@
 use mathlib.Core.Path.{_≡_, ap₂, ap, _∙_}
-use mathlib.Core.List.{List, [], _∷_}
+use mathlib.Core.List.{[], _∷_}
 use Prim.Native.Nat.{ℕ, _/_, _%_}
 use native.Mathlib.Omega.{arith}
 use Rattle.io.specs.Digits.{glyph}
