@@ -1,8 +1,8 @@
 -- From the journal to the reply: what each way out of the batch's functions says.
-use mathlib.Core.Path.{_≡_, refl, sym, ap, _∙_, subst}
+use mathlib.Core.Path.{_≡_, refl, sym, _∙_, subst}
 use mathlib.Core.Bool.{Bool, true, false, not}
 use mathlib.Core.List.{List, [], _∷_}
-use mathlib.Core.Option.{Option, none, some}
+use mathlib.Core.Option.{none}
 use Prim.Native.Nat.{ℕ}
 use native.Mathlib.Omega.{arith}
 use lib.ListN.{length}
@@ -25,6 +25,7 @@ use Rattle.definition.specs.declared.Answer.the-variants.{Ok, Refused}
 use Rattle.definition.specs.declared.Reply.{Reply}
 use Rattle.codec.specs.declared.Checked.{Checked}
 use Rattle.codec.specs.declared.Checked.the-variants as C
+use Rattle.codec.proofs.Laws.{fault-none, fault-some}
 use Rattle.codec.specs.Forms.{checkedOf}
 use Rattle.items.specs.declared.Failure.{Failure}
 use Rattle.items.specs.declared.ItemAnswer.{ItemAnswer}
@@ -97,16 +98,6 @@ no-ops : (ops : List Op) (h : Health) → length ops ≡ 0 → batch flat ops h 
 unfolding batch
 no-ops [] h z = refl
 no-ops (op ∷ ops) h z = absurd (omega arith)
-
-fault-none : (o : Option Fault) → C.Fine ≡ checkedOf o → o ≡ none
-unfolding checkedOf
-fault-none none e = refl
-fault-none (some f) e = let z : _≡_ {A = ℕ} 0 1 = cc in absurd (omega arith)
-
-fault-some : (o : Option Fault) {f : Fault} → C.Refused f ≡ checkedOf o → o ≡ some f
-unfolding checkedOf
-fault-some none e = let z : _≡_ {A = ℕ} 0 1 = cc in absurd (omega arith)
-fault-some (some g) {f} e = let z : g ≡ f = cc in ap some z
 
 module _ (ops : List Op) {n : ℕ} (en : n ≡ length ops) where
   pub batch-empty : (h : Health) {s script : Bytes} {t : Step} {u : Reply} → good s ≡ true → n ≡ 0 → u ≡ replyOf Ok h t → Says (batch flat ops h) s script t s (u .answer) (u .state) (u .calls) []

@@ -272,25 +272,26 @@ module _ (k v : Bytes) where
       op-fine h =
           record { is = ap checkedOf (passed _ _ _ (le-ltb _ _ h1) (passed _ _ _ (sym er ∙ h2) (passed _ _ _ (le-ltb _ _ h) refl))); bounds = (h1, h) }
 
+-- what the tests said, from the answer that holds it
+pub fault-none : (o : Option Fault) → K.Fine ≡ checkedOf o → o ≡ none
+unfolding checkedOf
+fault-none none e = refl
+fault-none (some f) e = let z : _≡_ {A = ℕ} 0 1 = cc in absurd (omega arith)
+
+pub fault-some : (o : Option Fault) {f : Fault} → K.Refused f ≡ checkedOf o → o ≡ some f
+unfolding checkedOf
+fault-some none e = let z : _≡_ {A = ℕ} 0 1 = cc in absurd (omega arith)
+fault-some (some g) {f} e = let z : g ≡ f = cc in ap some z
+
 module _ {tests : Option Fault} {k v : Bytes} {r : Checked} (c : Checks tests k v r) where
   pub fine-bounds : r ≡ K.Fine → (length k ≤ 96) × (length v ≤ 256)
   fine-bounds q = subst (Bounded k v) q (c .bounds)
 
-  none-of : (o : Option Fault) → K.Fine ≡ checkedOf o → o ≡ none
-  unfolding checkedOf
-  none-of none e = refl
-  none-of (some f) e = let z : _≡_ {A = ℕ} 0 1 = cc in absurd (omega arith)
-
-  some-of : (o : Option Fault) (f : Fault) → K.Refused f ≡ checkedOf o → o ≡ some f
-  unfolding checkedOf
-  some-of none f e = let z : _≡_ {A = ℕ} 0 1 = cc in absurd (omega arith)
-  some-of (some g) f e = let z : f ≡ g = cc in ap some (sym z)
-
   pub fine-none : r ≡ K.Fine → tests ≡ none
-  fine-none q = none-of tests (sym q ∙ c .is)
+  fine-none q = fault-none tests (sym q ∙ c .is)
 
   pub refused-some : {f : Fault} → r ≡ K.Refused f → tests ≡ some f
-  refused-some {f} q = some-of tests f (sym q ∙ c .is)
+  refused-some {f} q = fault-some tests (sym q ∙ c .is)
 
 -- ---- what is written
 

@@ -1,4 +1,3 @@
-pub mod Testing
 pub mod Putting
 pub mod Finding
 pub mod Mounting

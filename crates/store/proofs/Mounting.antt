@@ -1,7 +1,6 @@
 -- The outcomes of the public calls, return by return.
-use mathlib.Core.Path.{_≡_, refl, sym, ap, _∙_, subst}
+use mathlib.Core.Path.{_≡_, sym, ap, _∙_, subst}
 use mathlib.Core.Bool.{Bool, true, false}
-use mathlib.Core.Option.{Option, none, some}
 use mathlib.Core.List.{[]}
 use Prim.Native.Nat.{ℕ}
 use lib.ListN.{length}
@@ -27,6 +26,7 @@ use Rattle.definition.specs.declared.Answer.the-variants.{Ok, Refused}
 use Rattle.codec.specs.declared.Checked.{Checked}
 use Rattle.codec.specs.declared.Checked.the-variants as K
 use Rattle.codec.specs.Forms.{checkedOf}
+use Rattle.codec.proofs.Laws.{fault-none, fault-some}
 use Rattle.items.specs.declared.Failure.{Failure}
 use Rattle.items.specs.declared.ItemAnswer.{ItemAnswer}
 use Rattle.items.specs.declared.ItemAnswer.the-variants as I
@@ -35,25 +35,15 @@ use Rattle.items.proofs.Along.{ran-done}
 use Rattle.gate.specs.Forms.{stateOf}
 use Rattle.gate.proofs.Saying.{says-as, says-on, says-ret, says-failed, public-good, public-bad}
 
-none-of : (o : Option Fault) → K.Fine ≡ checkedOf o → o ≡ none
-unfolding checkedOf
-none-of none e = refl
-none-of (some f) e = cc
-
-some-of : (o : Option Fault) (f : Fault) → K.Refused f ≡ checkedOf o → o ≡ some f
-unfolding checkedOf
-some-of none f e = cc
-some-of (some g) f e = let z : f ≡ g = cc in ap some (sym z)
-
 module _ (region script : Bytes) (start at : ℕ) {c : Checked} (ec : c ≡ checkedOf (regionFault start (length region))) where
   pub mount-refused : {f : Fault} → c ≡ K.Refused f → outcome (Refused f) (state Pending at false) 0 region [] ≡ P.mount region script start at
   unfolding P.mount
-  mount-refused q = sym (opt-some _ _ (some-of _ _ (sym q ∙ ec)))
+  mount-refused q = sym (opt-some _ _ (fault-some _ (sym q ∙ ec)))
 
   module _ (q : c ≡ K.Fine) {g : Bool} (eg : g ≡ good region) where
     pub mount-bad : g ≡ false → outcome (Refused Corrupted) (state Pending at false) 0 region [] ≡ P.mount region script start at
     unfolding P.mount
-    mount-bad e = public-bad Refused (C.mount flat) region script (state Pending at false) [] eg e ∙ sym (opt-none _ _ (none-of _ (sym q ∙ ec)))
+    mount-bad e = public-bad Refused (C.mount flat) region script (state Pending at false) [] eg e ∙ sym (opt-none _ _ (fault-none _ (sym q ∙ ec)))
 
     module _ (e : g ≡ true) {t : Step} (et : t ≡ begin (state Pending at false)) {b : Bytes} {r : ItemAnswer} (x : Ran (recover flat) region script t b r) where
       begun : Ran (recover flat) region script (begin (state Pending at false)) b r
@@ -64,13 +54,13 @@ module _ (region script : Bytes) (start at : ℕ) {c : Checked} (ec : c ≡ chec
       unfolding P.mount C.mount laid
       mount-failed p ew =
           public-good Refused (C.mount flat) region script (state Pending at false) [] eg e (says-failed Refused (λ x. say Ok Clean) begun p ew)
-          ∙ sym (opt-none _ _ (none-of _ (sym q ∙ ec)))
+          ∙ sym (opt-none _ _ (fault-none _ (sym q ∙ ec)))
 
       pub mount-done : {t1 : Step} → r ≡ I.Done t1 → outcome Ok (stateOf Clean t1) (t1 .calls) b [] ≡ P.mount region script start at
       unfolding P.mount C.mount laid
       mount-done p =
           public-good Refused (C.mount flat) region script (state Pending at false) [] eg e (says-on (λ x. say Ok Clean) (λ e. say (Refused e) Pending) (ran-done begun p) (says-ret (x .fine)))
-          ∙ sym (opt-none _ _ (none-of _ (sym q ∙ ec)))
+          ∙ sym (opt-none _ _ (fault-none _ (sym q ∙ ec)))
 
 -- ---- a delete's test of its key comes before its recovery
 

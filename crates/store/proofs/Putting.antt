@@ -27,7 +27,7 @@ use Rattle.gate.specs.declared.Converged.{Converged}
 use Rattle.gate.specs.declared.Converged.the-variants as C
 use Rattle.gate.specs.Forms.{Says, Gate, stateOf, unreadyOf}
 use Rattle.gate.proofs.Saying.{says-as, says-ret, says-on, says-else, says-ready, says-not-ready}
-use Rattle.store.specs.Forms.{retried}
+use Rattle.limits.specs.Forms.{retried}
 
 module _ {k v : Bytes} (h : Health) (otherwise : Fault → Prog Bytes (Said Answer)) {s script : Bytes} {t : Step} {c : Checked} (x : Checks (putFault k v) k v c) where
   pub put-refused : {f : Fault} → c ≡ K.Refused f → good s ≡ true → Says (putOr flat k v h otherwise) s script t s (Refused f) (stateOf h t) (t .calls) []

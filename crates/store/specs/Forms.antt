@@ -1,21 +1,15 @@
 -- The forms of the store's inner contracts.
 use mathlib.Core.Path.{_≡_}
-use mathlib.Core.Bool.{Bool, false}
-use Rattle.definition.specs.Tools.{Bytes, pick}
+use Rattle.definition.specs.Tools.{Bytes}
 use Rattle.definition.specs.Codec.{laid}
 use Rattle.definition.specs.Program.{Prog, flat}
-use Rattle.definition.specs.Calls.{Said, isDebris, isFull, putOr, putAgain}
+use Rattle.definition.specs.Calls.{Said, putOr, putAgain}
 use Rattle.definition.specs.declared.Step.{Step}
-use Rattle.definition.specs.declared.Fault.{Fault}
 use Rattle.definition.specs.declared.Health.{Health}
 use Rattle.definition.specs.declared.Answer.{Answer}
 use Rattle.definition.specs.declared.GetAnswer.{GetAnswer}
 use Rattle.definition.specs.declared.GetReply.{GetReply}
 use Rattle.gate.specs.Forms.{Says, stateOf}
-
--- a put that a recovery clears the way for
-unfoldable pub retried : Health → Fault → Bool
-retried h e = pick (isDebris h) (isFull e) false
 
 -- a put on a store that is ready
 abbrev pub putReady : Bytes → Bytes → Health → Prog Bytes (Said Answer)

@@ -3,12 +3,10 @@
 use codec::Checked;
 use codec::Key;
 use definition::Answer;
-use definition::CapacityKind;
 use definition::Fault;
 use definition::GetAnswer;
 use definition::GetReply;
 use definition::Health;
-use definition::RegionKind;
 use definition::Reply;
 use definition::State;
 use definition::Step;
@@ -26,45 +24,13 @@ ghost use lib.ListN.{length};
 ghost use Rattle.definition.specs.Region.{good};
 ghost use Rattle.definition.specs.Program.{flat};
 ghost use Rattle.definition.specs.Calls;
-ghost use Rattle.definition.specs.Calls.{putFault, putOnce, putAgain, getKey, containsKey, deleteKey, deleteFound, regionFault};
+ghost use Rattle.definition.specs.Calls.{putOnce, putAgain, getKey, containsKey, deleteKey, deleteFound};
 ghost use Rattle.definition.specs.Public;
 ghost use Rattle.definition.specs.Public.{outcome};
 ghost use Rattle.gate.specs.Forms.{Says};
-ghost use Rattle.codec.specs.Forms.{checkedOf, Checks};
-ghost use Rattle.store.specs.Forms.{retried, putReady, getOf, Gets};
+ghost use Rattle.store.specs.Forms.{putReady, getOf, Gets};
 
 // ---- put
-
-// The tests of a put, in their order: the value's length, the reserved byte, the key's length.
-fn check_put(key: &[u8], value: &[u8]) -> Checked
-    ensures { λ r. ⌜ Checks (putFault (now (key .entry)) (now (value .entry))) (now (key .entry)) (now (value .entry)) r ⌝ }
-{
-    if 256 < value.len() {
-        return Checked::Refused(Fault::CapacityExceeded(CapacityKind::Value, value.len(), 256));
-    }
-    if codec::reserved(key) {
-        return Checked::Refused(Fault::ReservedKey);
-    }
-    if Key::MAX_LEN < key.len() {
-        return Checked::Refused(Fault::CapacityExceeded(
-            CapacityKind::Key,
-            key.len(),
-            Key::MAX_LEN,
-        ));
-    }
-    Checked::Fine
-}
-
-// Whether a refused store is tried again: a full region in Debris, which a recovery may clear.
-fn retries(health: Health, fault: Fault) -> bool
-    ensures { λ r. ⌜ r ≡ retried health fault ⌝ }
-{
-    match health {
-        Health::Clean => false,
-        Health::Debris => numbers::number(fault) == 6,
-        Health::Pending => false,
-    }
-}
 
 fn put_once(
     region: &mut [u8],
@@ -77,7 +43,7 @@ fn put_once(
     requires { ⌜ good (now region) ≡ true ⌝ }
     ensures { λ r. ⌜ Says (putOnce flat (now (key .entry)) (now (value .entry)) health) (now (region .entry)) (now (script .entry)) step (now (region .exit)) (r .answer) (r .state) (r .calls) [] ⌝ }
 {
-    if let Checked::Refused(fault) = check_put(key, value) {
+    if let Checked::Refused(fault) = limits::check_put(key, value) {
         return gate::reply(Answer::Refused(fault), health, step);
     }
     let stored = items::store(region, script, key, value, step);
@@ -101,7 +67,7 @@ fn put_again(
 {
     let fault = failed.fault;
     let step = failed.step;
-    if !retries(health, fault) {
+    if !limits::retries(health, fault) {
         return gate::refused(failed, health);
     }
     let converged = gate::converge(region, script, true, health, step);
@@ -122,7 +88,7 @@ fn put_ready(
     requires { ⌜ good (now region) ≡ true ⌝ }
     ensures { λ r. ⌜ Says (putReady (now (key .entry)) (now (value .entry)) health) (now (region .entry)) (now (script .entry)) step (now (region .exit)) (r .answer) (r .state) (r .calls) [] ⌝ }
 {
-    if let Checked::Refused(fault) = check_put(key, value) {
+    if let Checked::Refused(fault) = limits::check_put(key, value) {
         return gate::reply(Answer::Refused(fault), health, step);
     }
     let stored = items::store(region, script, key, value, step);
@@ -178,16 +144,6 @@ fn get_refused(failed: Failure, health: Health) -> GetReply
     get_reply(GetAnswer::Refused(fault), health, step)
 }
 
-// Whether a key cannot be in the store: such a key is absent, and no item call is made for it.
-fn unstorable(key: &[u8]) -> bool
-    ensures { λ r. ⌜ r ≡ Calls.unstorable (now (key .entry)) ⌝ }
-{
-    if codec::reserved(key) {
-        return true;
-    }
-    Key::MAX_LEN < key.len()
-}
-
 fn get_key(
     region: &[u8],
     script: &[u8],
@@ -235,7 +191,7 @@ pub fn get(region: &mut [u8], script: &[u8], state: State, key: &[u8], out: &mut
     let Converged::Ready(ready, step) = converged else {
         return get_refused(gate::why(converged), health);
     };
-    if unstorable(key) {
+    if limits::unstorable(key) {
         return get_reply(GetAnswer::Absent, ready, step);
     }
     get_key(region, script, key, ready, step, out)
@@ -279,7 +235,7 @@ pub fn contains(region: &mut [u8], script: &[u8], state: State, key: &[u8]) -> T
     let Converged::Ready(ready, step) = converged else {
         return gate::truth_refused(gate::why(converged), health);
     };
-    if unstorable(key) {
+    if limits::unstorable(key) {
         return gate::truth(TruthAnswer::No, ready, step);
     }
     contains_key(region, script, key, ready, step)
@@ -352,30 +308,6 @@ pub fn delete(region: &mut [u8], script: &[u8], state: State, key: &[u8]) -> Tru
 
 // ---- mount
 
-// The tests of a region, in their order; the first takes what has no sum in 64 bits too.
-fn check_region(start: u32, len: usize) -> Checked
-    ensures { λ r. ⌜ r ≡ checkedOf (regionFault start len) ⌝ }
-{
-    if 4294967296 <= len {
-        return Checked::Refused(Fault::BadRegion(RegionKind::TooHigh));
-    }
-    let start = start as usize;
-    let end = start + len;
-    if 4294967296 <= end {
-        return Checked::Refused(Fault::BadRegion(RegionKind::TooHigh));
-    }
-    if start % 4096 != 0 {
-        return Checked::Refused(Fault::BadRegion(RegionKind::StartNotPageAligned));
-    }
-    if end % 4096 != 0 {
-        return Checked::Refused(Fault::BadRegion(RegionKind::EndNotPageAligned));
-    }
-    if len < 8192 {
-        return Checked::Refused(Fault::BadRegion(RegionKind::TooSmall));
-    }
-    Checked::Fine
-}
-
 // Mounts the region, which stands at `start`, with the script at `at` and no cut; a refused mount hands the place reached back.
 pub fn mount(region: &mut [u8], script: &[u8], start: u32, at: usize) -> Reply
     ensures { λ r. ⌜ outcome (r .answer) (r .state) (r .calls) (now (region .exit)) [] ≡ Public.mount (now (region .entry)) (now (script .entry)) start at ⌝ }
@@ -385,7 +317,7 @@ pub fn mount(region: &mut [u8], script: &[u8], start: u32, at: usize) -> Reply
         at: at,
         cut: false,
     };
-    if let Checked::Refused(fault) = check_region(start, region.len()) {
+    if let Checked::Refused(fault) = limits::check_region(start, region.len()) {
         return Reply {
             answer: Answer::Refused(fault),
             state: state,

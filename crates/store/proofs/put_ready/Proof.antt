@@ -1,5 +1,5 @@
 use Rattle.store.proofs.Putting.{put-refused, put-stored, put-else}
-use Rattle.store.proofs.Testing.{fine-allowed}
+use Rattle.limits.proofs.Testing.{fine-allowed}
 use Rattle.gate.proofs.Saying.{as-reply}
 use borrow.Author.Needs.{needs}
 use Rattle.store.proofs.put_ready.Statement.{statement}

@@ -1,4 +1,4 @@
--- What the returns of the store's tests say.
+-- What the returns of the tests say.
 use mathlib.Core.Path.{_≡_, refl, sym, ap, _∙_}
 use mathlib.Core.Bool.{Bool, true, false, not}
 use mathlib.Core.Option.{Option}
@@ -23,7 +23,7 @@ use Rattle.codec.specs.declared.Checked.{Checked}
 use Rattle.codec.specs.declared.Checked.the-variants as K
 use Rattle.codec.specs.Forms.{checkedOf, Checks}
 use Rattle.codec.proofs.Laws.{fine-bounds}
-use Rattle.store.specs.Forms.{retried}
+use Rattle.limits.specs.Forms.{retried}
 
 -- ---- the tests of a put
 

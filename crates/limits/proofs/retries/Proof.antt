@@ -1,7 +1,7 @@
-use Rattle.store.proofs.Testing.{retry-clean, retry-debris, retry-pending}
+use Rattle.limits.proofs.Testing.{retry-clean, retry-debris, retry-pending}
 use borrow.Author.Needs.{needs}
-use Rattle.store.proofs.retries.Statement.{statement}
-use Rattle.store.proofs.retries.Tie as tie
+use Rattle.limits.proofs.retries.Statement.{statement}
+use Rattle.limits.proofs.retries.Tie as tie
 
 enum-told : tie.Need-enum-told
 enum-told c = search needs

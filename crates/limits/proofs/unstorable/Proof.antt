@@ -1,7 +1,7 @@
-use Rattle.store.proofs.Testing.{unstorable-reserved, unstorable-long}
+use Rattle.limits.proofs.Testing.{unstorable-reserved, unstorable-long}
 use borrow.Author.Needs.{needs}
-use Rattle.store.proofs.unstorable.Statement.{statement}
-use Rattle.store.proofs.unstorable.Tie as tie
+use Rattle.limits.proofs.unstorable.Statement.{statement}
+use Rattle.limits.proofs.unstorable.Tie as tie
 
 reserved-requires : tie.Need-reserved-requires
 reserved-requires c κs = search needs

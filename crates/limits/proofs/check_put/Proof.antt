@@ -1,7 +1,7 @@
-use Rattle.store.proofs.Testing.{put-value, put-reserved, put-key, put-fine}
+use Rattle.limits.proofs.Testing.{put-value, put-reserved, put-key, put-fine}
 use borrow.Author.Needs.{needs}
-use Rattle.store.proofs.check_put.Statement.{statement}
-use Rattle.store.proofs.check_put.Tie as tie
+use Rattle.limits.proofs.check_put.Statement.{statement}
+use Rattle.limits.proofs.check_put.Tie as tie
 
 returns : tie.Need-returns
 returns c = put-value _ _ (c .if1 .taken)

@@ -1,8 +1,8 @@
-use Rattle.store.proofs.Testing.{region-high, region-start, region-end, region-small, region-fine}
+use Rattle.limits.proofs.Testing.{region-high, region-start, region-end, region-small, region-fine}
 use native.Mathlib.Omega.{arith}
 use borrow.Author.Needs.{needs}
-use Rattle.store.proofs.check_region.Statement.{statement}
-use Rattle.store.proofs.check_region.Tie as tie
+use Rattle.limits.proofs.check_region.Statement.{statement}
+use Rattle.limits.proofs.check_region.Tie as tie
 
 returns : tie.Need-returns
 returns c = region-high _ _ (omega arith)
