@@ -14,7 +14,8 @@ ghost use Rattle.definition.specs.Public.{outcome};
 pub fn contains(state: &mut State, region: &mut [u8], script: &[u8], key: &[u8]) -> TruthReply
     ensures { λ r. ⌜ (outcome (r .answer) (r .state) (r .calls) (now (region .exit)) [] ≡ Public.contains (now (region .entry)) (now (script .entry)) (now (state .entry)) (now (key .entry))) × (now (state .exit) ≡ r .state) ⌝ }
 {
-    let reply = store::contains(region, script, *state, key);
+    let before = *state;
+    let reply = store::contains(region, script, before, key);
     *state = reply.state;
     reply
 }
