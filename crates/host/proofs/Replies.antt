@@ -12,8 +12,8 @@ use Rattle.definition.proofs.TruthReply.Laws as TruthReply′
 use Rattle.definition.proofs.ScanReply as ScanReply
 use Rattle.definition.proofs.ScanReply.Laws as ScanReply′
 
-abbrev pub plain : Kind
-plain = record {
+abbrev pub reply : Kind
+reply = record {
   R = Reply.the-row;
   ty = Reply′.mir;
   val = LL.val Reply.the-type Reply′.the-laws;
@@ -27,8 +27,8 @@ plain = record {
   reads = λ t l r. look-in t 0 (sub t 1 refl (whole t));
 }
 
-abbrev pub value : Kind
-value = record {
+abbrev pub get-reply : Kind
+get-reply = record {
   R = GetReply.the-row;
   ty = GetReply′.mir;
   val = LL.val GetReply.the-type GetReply′.the-laws;
@@ -42,8 +42,8 @@ value = record {
   reads = λ t l r. look-in t 0 (sub t 1 refl (whole t));
 }
 
-abbrev pub truth : Kind
-truth = record {
+abbrev pub truth-reply : Kind
+truth-reply = record {
   R = TruthReply.the-row;
   ty = TruthReply′.mir;
   val = LL.val TruthReply.the-type TruthReply′.the-laws;
@@ -57,8 +57,8 @@ truth = record {
   reads = λ t l r. look-in t 0 (sub t 1 refl (whole t));
 }
 
-abbrev pub listed : Kind
-listed = record {
+abbrev pub scan-reply : Kind
+scan-reply = record {
   R = ScanReply.the-row;
   ty = ScanReply′.mir;
   val = LL.val ScanReply.the-type ScanReply′.the-laws;
