@@ -1,3 +1,4 @@
 pub mod Lent
+pub mod OneSlice
 pub mod Replies
 pub mod Stands

@@ -127,13 +127,32 @@ module _ {M : Type 1} (𝓤 : URA M) (H : Heap 𝓤) (A : Atoms 𝓤) (W : Given
 
 pub mount-spec : {M : Type 1} → stated.statement M
 unfolding code.routine
-mount-spec 𝓤 H 𝓜 𝓖 𝓡 = stands 𝓤 H 𝓜 𝓖 𝓡 face.ended stayed (face.clauses 𝓤 H (𝓖 .A) (𝓜 .mem) (𝓡 .run)) code.env #own code.function (code.unfolded 𝓤 H 𝓜 𝓡)
-    (goes-ref 𝓤 H (𝓖 .A) (givenOf 𝓤 H 𝓜 𝓖) 3 0 tt (plain (λ _. SR)), (
-    goes-gave-slice 𝓤 H (𝓖 .A) (givenOf 𝓤 H 𝓜 𝓖) 3 1 tt (plain (λ _. u8)), (
-    goes-dropped 𝓤 H (𝓖 .A) (givenOf 𝓤 H 𝓜 𝓖) 3 (bytes 2 tt) yes (λ κs x f. refl), (
-    goes-dropped 𝓤 H (𝓖 .A) (givenOf 𝓤 H 𝓜 𝓖) 3 (plain (λ _. u32)) yes (λ κs x f. refl), tt))))
+mount-spec 𝓤 H 𝓜 𝓖 𝓡 = stands 𝓤 H 𝓜 𝓖 𝓡 face.ended stayed (face.clauses 𝓤 H (𝓖 .A) (𝓜 .mem) (𝓡 .run)) code.env #own code.function (code.unfolded 𝓤 H 𝓜 𝓡) (
+  goes-ref 𝓤 H (𝓖 .A) (givenOf 𝓤 H 𝓜 𝓖) 3 0 tt (plain (λ _. SR)),
+  (
+    goes-gave-slice 𝓤 H (𝓖 .A) (givenOf 𝓤 H 𝓜 𝓖) 3 1 tt (plain (λ _. u8)),
+    (
+      goes-dropped 𝓤 H (𝓖 .A) (givenOf 𝓤 H 𝓜 𝓖) 3 (bytes 2 tt) yes (λ κs x f. refl),
+      (
+        goes-dropped 𝓤 H (𝓖 .A) (givenOf 𝓤 H 𝓜 𝓖) 3 (plain (λ _. u32)) yes (λ κs x f. refl),
+        tt,
+      ),
+    ),
+  ),
+)
     (λ κs. (ptr-vals, (slice-vals, (slice-vals, (uint-vals w32, tt)))))
-    (λ κs. (mut-tells (named 0) (κs .0) SR, ( mut-slice-tells (named 1) (κs .1 .0) u8, ( shr-slice-tells (named 2) (κs .1 .1 .0) u8, (
-    uint-tells w32, tt)))))
+    (λ κs. (
+      mut-tells (named 0) (κs .0) SR,
+      (
+        mut-slice-tells (named 1) (κs .1 .0) u8,
+        (
+          shr-slice-tells (named 2) (κs .1 .1 .0) u8,
+          (
+            uint-tells w32,
+            tt,
+          ),
+        ),
+      ),
+    ))
     (λ fm κs qs bounds a g are. walk 𝓤 H (𝓖 .A) (givenOf 𝓤 H 𝓜 𝓖) (𝓜 .mem) (𝓡 .run) κs qs a (are .1 .0 .0 .1) (are .1 .1 .0 .0 .1) (are .1 .1 .1 .0 .1) _ _ fm
     (cited 𝓤 H (Callee 𝓤 H (𝓖 .A) (𝓜 .mem) (𝓡 .run)) 𝓜 𝓡 code.env #callee callee-def.routine code.calls-store·mount (callee-thm.met 𝓤 H 𝓜 𝓖 𝓡)))

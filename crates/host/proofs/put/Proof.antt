@@ -126,14 +126,35 @@ module _ {M : Type 1} (𝓤 : URA M) (H : Heap 𝓤) (A : Atoms 𝓤) (W : Given
 
 pub put-spec : {M : Type 1} → stated.statement M
 unfolding code.routine
-put-spec 𝓤 H 𝓜 𝓖 𝓡 = stands 𝓤 H 𝓜 𝓖 𝓡 face.ended stayed (face.clauses 𝓤 H (𝓖 .A) (𝓜 .mem) (𝓡 .run)) code.env #own code.function (code.unfolded 𝓤 H 𝓜 𝓡)
-    (goes-ref 𝓤 H (𝓖 .A) (givenOf 𝓤 H 𝓜 𝓖) 5 0 tt (plain (λ _. SR)), (
-    goes-gave-slice 𝓤 H (𝓖 .A) (givenOf 𝓤 H 𝓜 𝓖) 5 1 tt (plain (λ _. u8)), (
-    goes-dropped 𝓤 H (𝓖 .A) (givenOf 𝓤 H 𝓜 𝓖) 5 (bytes 2 tt) yes (λ κs x f. refl), (
-    goes-dropped 𝓤 H (𝓖 .A) (givenOf 𝓤 H 𝓜 𝓖) 5 (bytes 3 tt) yes (λ κs x f. refl), (
-    goes-dropped 𝓤 H (𝓖 .A) (givenOf 𝓤 H 𝓜 𝓖) 5 (bytes 4 tt) yes (λ κs x f. refl), tt)))))
+put-spec 𝓤 H 𝓜 𝓖 𝓡 = stands 𝓤 H 𝓜 𝓖 𝓡 face.ended stayed (face.clauses 𝓤 H (𝓖 .A) (𝓜 .mem) (𝓡 .run)) code.env #own code.function (code.unfolded 𝓤 H 𝓜 𝓡) (
+  goes-ref 𝓤 H (𝓖 .A) (givenOf 𝓤 H 𝓜 𝓖) 5 0 tt (plain (λ _. SR)),
+  (
+    goes-gave-slice 𝓤 H (𝓖 .A) (givenOf 𝓤 H 𝓜 𝓖) 5 1 tt (plain (λ _. u8)),
+    (
+      goes-dropped 𝓤 H (𝓖 .A) (givenOf 𝓤 H 𝓜 𝓖) 5 (bytes 2 tt) yes (λ κs x f. refl),
+      (
+        goes-dropped 𝓤 H (𝓖 .A) (givenOf 𝓤 H 𝓜 𝓖) 5 (bytes 3 tt) yes (λ κs x f. refl),
+        (
+          goes-dropped 𝓤 H (𝓖 .A) (givenOf 𝓤 H 𝓜 𝓖) 5 (bytes 4 tt) yes (λ κs x f. refl),
+          tt,
+        ),
+      ),
+    ),
+  ),
+)
     (λ κs. (ptr-vals, (slice-vals, (slice-vals, (slice-vals, (slice-vals, tt))))))
-    (λ κs. (mut-tells (named 0) (κs .0) SR, ( mut-slice-tells (named 1) (κs .1 .0) u8, ( shr-slice-tells (named 2) (κs .1 .1 .0) u8, (
-    shr-slice-tells (named 3) (κs .1 .1 .1 .0) u8, ( shr-slice-tells (named 4) (κs .1 .1 .1 .1 .0) u8, tt))))))
+    (λ κs. (
+      mut-tells (named 0) (κs .0) SR,
+      (
+        mut-slice-tells (named 1) (κs .1 .0) u8,
+        (
+          shr-slice-tells (named 2) (κs .1 .1 .0) u8,
+          (
+            shr-slice-tells (named 3) (κs .1 .1 .1 .0) u8,
+            (shr-slice-tells (named 4) (κs .1 .1 .1 .1 .0) u8, tt),
+          ),
+        ),
+      ),
+    ))
     (λ fm κs qs bounds a g are. walk 𝓤 H (𝓖 .A) (givenOf 𝓤 H 𝓜 𝓖) (𝓜 .mem) (𝓡 .run) κs qs a (are .1 .0 .0 .1) (are .1 .1 .0 .0 .1) (are .1 .1 .1 .0 .0 .1) (are .1 .1 .1 .1 .0 .0 .1) _ _ fm
     (cited 𝓤 H (Callee 𝓤 H (𝓖 .A) (𝓜 .mem) (𝓡 .run)) 𝓜 𝓡 code.env #callee callee-def.routine code.calls-store·put (callee-thm.met 𝓤 H 𝓜 𝓖 𝓡)))
