@@ -33,7 +33,6 @@ use denote.Plain.{uint-makes}
 use denote.Builtin.{u8, usize}
 use denote.Ref.{RefT}
 use denote.Slice.{sliceVal, sliceTy, Room}
-use denote.Signature.{Slot, AllWithin, plain, shrSliceOf}
 use denote.Struct.Steps.{spelt}
 use denote.Struct.Laws as LL
 use denote.Triple.Statement.{Contract, Triple}
@@ -53,10 +52,6 @@ slice x = sliceVal (x .ptr) (length (x .now))
 
 abbrev bytesTy : Lifetime → Ty
 bytesTy ℓ = sliceTy (tyRef ℓ mut (tyInt w8))
-
--- a `&[u8]`
-abbrev pub bytes : {n : ℕ} (j : ℕ) → AllWithin n (j ∷ []) → Slot n
-bytes j ok = shrSliceOf (j ∷ []) ok (plain (λ _. u8))
 
 pub record Kind : Type 2 where
   pub R : RattleType
