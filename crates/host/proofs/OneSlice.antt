@@ -77,13 +77,15 @@ module _ (𝓚 : Kind) (Says : List ℕ → List ℕ → Kept → List ℕ → �
     lifetimes = 4;
     outlives = [];
     params = 4;
-    locals = local (𝓚 .ty) valueLocal ∷ local (tyRef (named 0) mut (pointee (SR .written))) valueLocal ∷ local (list (named 1) mut) valueLocal ∷ local (list (named 2) imm) valueLocal
-        ∷ local (list (named 3) imm) valueLocal ∷ local S′.mir valueLocal ∷ local (𝓚 .ty) valueLocal ∷ local (tyRef erased mut (tyInt w8)) valueLocal ∷ local (list erased mut) valueLocal ∷ [];
+    locals = local (𝓚 .ty) valueLocal ∷ local (tyRef (named 0) mut (pointee (SR .written))) valueLocal ∷ local (list (named 1) mut) valueLocal
+        ∷ local (list (named 2) imm) valueLocal ∷ local (list (named 3) imm) valueLocal ∷ local S′.mir valueLocal ∷ local (𝓚 .ty) valueLocal
+        ∷ local (tyRef erased mut (tyInt w8)) valueLocal ∷ local (list erased mut) valueLocal ∷ [];
     body = seq (assign (place 5 []) (rvOpd (copy (place 1 (deref S′.mir ∷ [])))))
         (seq (assign (place 7 []) (addrOf (place 2 (field 0 ∷ deref (tyInt w8) ∷ []))))
         (seq (assign (place 8 []) (aggregate (copy (place 7 []) ∷ copy (place 2 (field 1 ∷ [])) ∷ [])))
         (seq (call f (copy (place 8 []) ∷ copy (place 3 []) ∷ copy (place 5 []) ∷ copy (place 4 []) ∷ []) (place 6 []))
-        (seq (assign (place 1 (deref S′.mir ∷ [])) (rvOpd (copy (place 6 (field 1 ∷ []))))) (seq (assign (place 0 []) (rvOpd (copy (place 6 [])))) return)))));
+        (seq (assign (place 1 (deref S′.mir ∷ [])) (rvOpd (copy (place 6 (field 1 ∷ [])))))
+        (seq (assign (place 0 []) (rvOpd (copy (place 6 [])))) return)))));
   }
 
   module _ {M : Type 1} (𝓤 : URA M) where
@@ -106,7 +108,8 @@ module _ (𝓚 : Kind) (Says : List ℕ → List ℕ → Kept → List ℕ → �
     Callee = tripleOf 𝓤 H A (asked .signature) (closing 𝓤 H A asked (said 𝓤))
 
   module _ {M : Type 1} (𝓤 : URA M) (H : Heap 𝓤) (A : Atoms 𝓤) (W : Given 𝓤 H A) (κs : Lfts 4) (qs : Shares 4) (a : Args (ended .signature) κs)
-      (room-region : Room u8 (length (a .1 .0 .now))) (room-script : Room u8 (length (a .1 .1 .0 .now))) (room-list : Room u8 (length (a .1 .1 .1 .0 .now))) where
+      (room-region : Room u8 (length (a .1 .0 .now))) (room-script : Room u8 (length (a .1 .1 .0 .now)))
+      (room-list : Room u8 (length (a .1 .1 .1 .0 .now))) where
     abbrev at : Vals (ended .signature) κs
     at = valss (typesAt (slots ps) κs) (spells κs ps) a
 

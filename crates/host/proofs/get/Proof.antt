@@ -88,18 +88,22 @@ module _ {M : Type 1} (𝓤 : URA M) (H : Heap 𝓤) (A : Atoms 𝓤) (W : Given
       → ent 𝓤 (⋆ 𝓤 H A (Toks₀ ∷ ‵ (State r) ∷ Said r ∷ [])) (walkOf 𝓤 H A face.ended (stays ps) (face.clauses 𝓤 H A mem run) .post y (get-reply .val r))
   exits r g =
       qed W (Toks₀ ∷ ‵ (State r) ∷ Said r ∷ []) ∵ move ! (2 ∷ []) $
-      use1 W (some (λ (ws : Lasts callee.ended (κs .1) args). ‵ (lasts callee.ended (κs .1) args ws) ⊛ raw (fact 𝓤 (Fact r (ws .0) (ws .1 .1 .1 .1 .0))))) (id⊢ 𝓤 _) $ pick ! (λ ws.
+      use1 W (some (λ (ws : Lasts callee.ended (κs .1) args).
+      ‵ (lasts callee.ended (κs .1) args ws) ⊛ raw (fact 𝓤 (Fact r (ws .0) (ws .1 .1 .1 .1 .0))))) (id⊢ 𝓤 _) $ pick ! (λ ws.
       split ! $ move ! (1 ∷ []) $ heard ! (Fact r (ws .0) (ws .1 .1 .1 .1 .0)) (λ e. fsplit ! $ fsplit ! $ move ! (1 ∷ []) $ feqL ! (λ l.
-      move ! (1 ∷ []) $ fsplit ! $ drop ! $ fsplit ! $ move ! (1 ∷ []) $ fsplit ! $ move ! (1 ∷ []) $ fsplit ! $ fsplit ! $ move ! (1 ∷ []) $ feqL ! (λ l′.
+      move ! (1 ∷ []) $ fsplit ! $ drop ! $ fsplit ! $ move ! (1 ∷ []) $ fsplit ! $ move ! (1 ∷ []) $
+      fsplit ! $ fsplit ! $ move ! (1 ∷ []) $ feqL ! (λ l′.
       fjoin ! $ move ! (1 ∷ 0 ∷ []) $ fjoin ! $ move ! (1 ∷ 0 ∷ []) $ fjoin ! $ move ! (1 ∷ 0 ∷ []) $
       -- [the region's last bytes; the others'; the tokens; the state]
       suffices ! _ (ends-at 𝓤 H A face.ended (stays ps) (face.clauses 𝓤 H A mem run) W y (get-reply .val r) r
       (r .state, (ws .0, (tt, (tt, (ws .1 .1 .1 .1 .0, tt))))) (tt, (l, (tt, (tt, (l′, tt)))))) $ says ! (e, refl) $
-      fjoin ! $ move ! (1 ∷ 2 ∷ 0 ∷ []) $ frame ! $ fjoin ! $ frame ! $ owned ! (get-reply .R) (Is (get-reply .R)) (get-reply .makes 𝓤 H A) r _ g $ done !))))
+      fjoin ! $ move ! (1 ∷ 2 ∷ 0 ∷ []) $ frame ! $ fjoin ! $ frame ! $
+      owned ! (get-reply .R) (Is (get-reply .R)) (get-reply .makes 𝓤 H A) r _ g $ done !))))
 
   module _ (C : Calls 𝓤 H) (Λ : Loops 𝓤 H) (fm : FmC 𝓤 H (W .laws) C) (known : Triple 𝓤 (C #callee) (Callee 𝓤 H A mem run)) where
     walk : ent 𝓤 (onEntry 𝓤 H A face.signature κs qs a at)
-        (WpFn 𝓤 H C Λ code.function (only (at .0) ∷ only (at .1 .0) ∷ only (at .1 .1 .0) ∷ only (at .1 .1 .1 .0) ∷ only (at .1 .1 .1 .1 .0) ∷ [])
+        (WpFn 𝓤 H C Λ code.function
+        (only (at .0) ∷ only (at .1 .0) ∷ only (at .1 .1 .0) ∷ only (at .1 .1 .1 .0) ∷ only (at .1 .1 .1 .1 .0) ∷ [])
         (walkOf 𝓤 H A face.ended (stays ps) (face.clauses 𝓤 H A mem run) .post y))
     walk =
         qed W (Toks₀ ∷ ‵ (owns (typesAt (slots ps) κs) a at) ∷ []) ∵ enter ! C Λ code.function _ _ $
@@ -123,11 +127,15 @@ module _ {M : Type 1} (𝓤 : URA M) (H : Heap 𝓤) (A : Atoms 𝓤) (W : Given
         and-then ! (load ! (from ! (stop !)) (look ! 7 refl)) (no-more !)))))) (λ r g′.
         -- [the tokens; the state; what is said; _7; _1; _0; …]
         move ! (5 ∷ 26 ∷ 4 ∷ 25 ∷ 9 ∷ 24 ∷ 22 ∷ 23 ∷ 20 ∷ 21 ∷ 6 ∷ 19 ∷ 12 ∷ 18 ∷ 3 ∷ 17 ∷ 10 ∷ 16 ∷ 11 ∷ 15 ∷ 7 ∷ 14 ∷ 8 ∷ 13 ∷ []) $
-        freed ! $ freed ! $ freed ! $ freed ! $ freed ! $ freed ! $ freed ! $ freed ! $ freed ! $ freed ! $ freed ! $ freed ! $ free0 ! $ by ! (exits r g′)))))))))))))))
+        freed ! $ freed ! $ freed ! $ freed ! $ freed ! $ freed ! $ freed ! $ freed ! $ freed ! $ freed ! $ freed ! $ freed ! $
+        free0 ! $ by ! (exits r g′)))))))))))))))
 
 pub get-spec : {M : Type 1} → stated.statement M
 unfolding code.routine
-get-spec 𝓤 H 𝓜 𝓖 𝓡 = stands 𝓤 H 𝓜 𝓖 𝓡 face.ended (stays ps) (face.clauses 𝓤 H (𝓖 .A) (𝓜 .mem) (𝓡 .run)) code.env #own code.function (code.unfolded 𝓤 H 𝓜 𝓡)
+get-spec 𝓤 H 𝓜 𝓖 𝓡 = stands 𝓤 H 𝓜 𝓖 𝓡 face.ended (stays ps) (face.clauses 𝓤 H (𝓖 .A) (𝓜 .mem) (𝓡 .run))
+    code.env #own code.function (code.unfolded 𝓤 H 𝓜 𝓡)
     (all-go 𝓤 H (𝓖 .A) (givenOf 𝓤 H 𝓜 𝓖) ps) (λ κs. spells κs ps) (λ κs. all-tell κs ps)
-    (λ fm κs qs bounds a g are. walk 𝓤 H (𝓖 .A) (givenOf 𝓤 H 𝓜 𝓖) (𝓜 .mem) (𝓡 .run) κs qs a (are .1 .0 .0 .1) (are .1 .1 .0 .0 .1) (are .1 .1 .1 .0 .0 .1) (are .1 .1 .1 .1 .0 .0 .1) _ _ fm
-    (cited 𝓤 H (Callee 𝓤 H (𝓖 .A) (𝓜 .mem) (𝓡 .run)) 𝓜 𝓡 code.env #callee callee-def.routine code.calls-store·get (callee-thm.met 𝓤 H 𝓜 𝓖 𝓡)))
+    (λ fm κs qs bounds a g are. walk 𝓤 H (𝓖 .A) (givenOf 𝓤 H 𝓜 𝓖) (𝓜 .mem) (𝓡 .run) κs qs a
+    (are .1 .0 .0 .1) (are .1 .1 .0 .0 .1) (are .1 .1 .1 .0 .0 .1) (are .1 .1 .1 .1 .0 .0 .1) _ _ fm
+    (cited 𝓤 H (Callee 𝓤 H (𝓖 .A) (𝓜 .mem) (𝓡 .run)) 𝓜 𝓡 code.env #callee callee-def.routine
+    code.calls-store·get (callee-thm.met 𝓤 H 𝓜 𝓖 𝓡)))

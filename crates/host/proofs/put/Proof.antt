@@ -88,17 +88,20 @@ module _ {M : Type 1} (𝓤 : URA M) (H : Heap 𝓤) (A : Atoms 𝓤) (W : Given
       → ent 𝓤 (⋆ 𝓤 H A (Toks₀ ∷ ‵ (State r) ∷ Said r ∷ [])) (walkOf 𝓤 H A face.ended (stays ps) (face.clauses 𝓤 H A mem run) .post y (reply .val r))
   exits r g =
       qed W (Toks₀ ∷ ‵ (State r) ∷ Said r ∷ []) ∵ move ! (2 ∷ []) $
-      use1 W (some (λ (ws : Lasts callee.ended (κs .1) args). ‵ (lasts callee.ended (κs .1) args ws) ⊛ raw (fact 𝓤 (Fact r (ws .0))))) (id⊢ 𝓤 _) $ pick ! (λ ws.
+      use1 W (some (λ (ws : Lasts callee.ended (κs .1) args).
+      ‵ (lasts callee.ended (κs .1) args ws) ⊛ raw (fact 𝓤 (Fact r (ws .0))))) (id⊢ 𝓤 _) $ pick ! (λ ws.
       split ! $ move ! (1 ∷ []) $ heard ! (Fact r (ws .0)) (λ e. fsplit ! $ fsplit ! $ move ! (1 ∷ []) $ feqL ! (λ l.
       move ! (1 ∷ []) $ fsplit ! $ drop ! $ move ! (1 ∷ 0 ∷ []) $
       -- [the region's last bytes; the others'; the tokens; the state]
       suffices ! _ (ends-at 𝓤 H A face.ended (stays ps) (face.clauses 𝓤 H A mem run) W y (reply .val r) r
       (r .state, (ws .0, (tt, (tt, (tt, tt))))) (tt, (l, (tt, (tt, (tt, tt)))))) $ says ! (e, refl) $
-      fjoin ! $ move ! (1 ∷ 2 ∷ 0 ∷ []) $ frame ! $ fjoin ! $ frame ! $ owned ! (reply .R) (Is (reply .R)) (reply .makes 𝓤 H A) r _ g $ done !)))
+      fjoin ! $ move ! (1 ∷ 2 ∷ 0 ∷ []) $ frame ! $ fjoin ! $ frame ! $
+      owned ! (reply .R) (Is (reply .R)) (reply .makes 𝓤 H A) r _ g $ done !)))
 
   module _ (C : Calls 𝓤 H) (Λ : Loops 𝓤 H) (fm : FmC 𝓤 H (W .laws) C) (known : Triple 𝓤 (C #callee) (Callee 𝓤 H A mem run)) where
     walk : ent 𝓤 (onEntry 𝓤 H A face.signature κs qs a at)
-        (WpFn 𝓤 H C Λ code.function (only (at .0) ∷ only (at .1 .0) ∷ only (at .1 .1 .0) ∷ only (at .1 .1 .1 .0) ∷ only (at .1 .1 .1 .1 .0) ∷ [])
+        (WpFn 𝓤 H C Λ code.function
+        (only (at .0) ∷ only (at .1 .0) ∷ only (at .1 .1 .0) ∷ only (at .1 .1 .1 .0) ∷ only (at .1 .1 .1 .1 .0) ∷ [])
         (walkOf 𝓤 H A face.ended (stays ps) (face.clauses 𝓤 H A mem run) .post y))
     walk =
         qed W (Toks₀ ∷ ‵ (owns (typesAt (slots ps) κs) a at) ∷ []) ∵ enter ! C Λ code.function _ _ $
@@ -121,11 +124,15 @@ module _ {M : Type 1} (𝓤 : URA M) (H : Heap 𝓤) (A : Atoms 𝓤) (W : Given
         and-then ! (load ! (from ! (stop !)) (look ! 13 refl)) (no-more !)))))) (λ r g′.
         -- [the tokens; the state; what is said; _7; _1; _0; …]
         move ! (5 ∷ 22 ∷ 4 ∷ 21 ∷ 6 ∷ 20 ∷ 18 ∷ 19 ∷ 16 ∷ 17 ∷ 14 ∷ 15 ∷ 9 ∷ 13 ∷ 3 ∷ 12 ∷ 7 ∷ 11 ∷ 8 ∷ 10 ∷ []) $
-        freed ! $ freed ! $ freed ! $ freed ! $ freed ! $ freed ! $ freed ! $ freed ! $ freed ! $ freed ! $ free0 ! $ by ! (exits r g′)))))))))))))
+        freed ! $ freed ! $ freed ! $ freed ! $ freed ! $ freed ! $ freed ! $ freed ! $ freed ! $ freed ! $
+        free0 ! $ by ! (exits r g′)))))))))))))
 
 pub put-spec : {M : Type 1} → stated.statement M
 unfolding code.routine
-put-spec 𝓤 H 𝓜 𝓖 𝓡 = stands 𝓤 H 𝓜 𝓖 𝓡 face.ended (stays ps) (face.clauses 𝓤 H (𝓖 .A) (𝓜 .mem) (𝓡 .run)) code.env #own code.function (code.unfolded 𝓤 H 𝓜 𝓡)
+put-spec 𝓤 H 𝓜 𝓖 𝓡 = stands 𝓤 H 𝓜 𝓖 𝓡 face.ended (stays ps) (face.clauses 𝓤 H (𝓖 .A) (𝓜 .mem) (𝓡 .run))
+    code.env #own code.function (code.unfolded 𝓤 H 𝓜 𝓡)
     (all-go 𝓤 H (𝓖 .A) (givenOf 𝓤 H 𝓜 𝓖) ps) (λ κs. spells κs ps) (λ κs. all-tell κs ps)
-    (λ fm κs qs bounds a g are. walk 𝓤 H (𝓖 .A) (givenOf 𝓤 H 𝓜 𝓖) (𝓜 .mem) (𝓡 .run) κs qs a (are .1 .0 .0 .1) (are .1 .1 .0 .0 .1) (are .1 .1 .1 .0 .0 .1) (are .1 .1 .1 .1 .0 .0 .1) _ _ fm
-    (cited 𝓤 H (Callee 𝓤 H (𝓖 .A) (𝓜 .mem) (𝓡 .run)) 𝓜 𝓡 code.env #callee callee-def.routine code.calls-store·put (callee-thm.met 𝓤 H 𝓜 𝓖 𝓡)))
+    (λ fm κs qs bounds a g are. walk 𝓤 H (𝓖 .A) (givenOf 𝓤 H 𝓜 𝓖) (𝓜 .mem) (𝓡 .run) κs qs a
+    (are .1 .0 .0 .1) (are .1 .1 .0 .0 .1) (are .1 .1 .1 .0 .0 .1) (are .1 .1 .1 .1 .0 .0 .1) _ _ fm
+    (cited 𝓤 H (Callee 𝓤 H (𝓖 .A) (𝓜 .mem) (𝓡 .run)) 𝓜 𝓡 code.env #callee callee-def.routine
+    code.calls-store·put (callee-thm.met 𝓤 H 𝓜 𝓖 𝓡)))
