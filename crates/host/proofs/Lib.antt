@@ -1,0 +1,5 @@
+pub mod Lent
+pub mod OneSlice
+pub mod Params
+pub mod Replies
+pub mod Stands
