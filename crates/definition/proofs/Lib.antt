@@ -1,8 +1,7 @@
--- What is computed comes first: an edit of the definition is refused at the run that it changes, before any law of its programs.
 pub mod Computes
 pub mod Examples
-pub mod Against
 pub mod Session
+pub mod Against
 pub mod Choices
 pub mod Running
 pub mod Codecs
