@@ -1,7 +1,7 @@
 -- The public calls: what each leaves behind, all of it. "Every public call on a region tests the image first (mount: after its region tests);
 -- a bad one answers 7 with nothing changed and no item call."
 use mathlib.Core.Bool.{Bool, false}
-use mathlib.Core.List.{[]}
+use mathlib.Core.List.{List, []}
 use Prim.Native.Nat.{ℕ}
 use lib.ListN.{length}
 use Rattle.definition.specs.Tools.{Bytes, pick, opt}
@@ -11,7 +11,7 @@ use Rattle.definition.specs.Calls.{Said, regionFault}
 use Rattle.definition.specs.Calls as C
 use Rattle.definition.specs.Scan.{rising}
 use Rattle.definition.specs.Scan as S
-use Rattle.definition.specs.OperationList.{opsOf}
+use Rattle.definition.specs.OperationList.{opsOf, opsOver}
 use Rattle.definition.specs.declared.Fault.{Fault}
 use Rattle.definition.specs.declared.Fault.the-variants.{Corrupted}
 use Rattle.definition.specs.declared.Health.{Health}
@@ -26,6 +26,7 @@ use Rattle.definition.specs.declared.TruthAnswer.{TruthAnswer}
 use Rattle.definition.specs.declared.TruthAnswer.the-variants as T
 use Rattle.definition.specs.declared.ScanEnd.the-variants as E
 use Rattle.definition.specs.declared.Scanned.{Scanned}
+use Rattle.definition.specs.declared.BatchOp.{BatchOp}
 
 -- "answer, health, script position, item calls and every lent byte"
 pub record Outcome (A : Type 0) : Type 0 where
@@ -71,6 +72,9 @@ delete region script st key = public T.Refused (C.delete flat key (st .health)) 
 
 unfoldable pub applyBatch : Bytes → Bytes → State → Bytes → Outcome Answer
 applyBatch region script st list = public A.Refused (C.batchOf flat (opsOf list) (st .health)) region script st []
+
+unfoldable pub applyOps : Bytes → Bytes → State → List BatchOp → Bytes → Outcome Answer
+applyOps region script st ops pool = public A.Refused (C.batchOf flat (opsOver pool ops) (st .health)) region script st []
 
 unfoldable pub scanPrefix : Bytes → Bytes → State → Bytes → ℕ → Bytes → Outcome Scanned
 scanPrefix region script st prefix most out =

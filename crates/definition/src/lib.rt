@@ -155,6 +155,15 @@ pub struct Scanned {
     pub length: usize,
 }
 
+// One operation of a batch, given as parts of a lent byte pool: kind 1 puts, kind 2 deletes.
+pub struct BatchOp {
+    pub kind: u8,
+    pub key_at: usize,
+    pub key_len: usize,
+    pub value_at: usize,
+    pub value_len: usize,
+}
+
 // What a call hands back, one struct for each kind of answer: the answer, the state to keep, and the item calls made.
 pub struct Reply {
     pub answer: Answer,
