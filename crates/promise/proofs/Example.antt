@@ -19,7 +19,7 @@ use Rattle.definition.specs.declared.TruthAnswer.the-variants as Truth
 use Rattle.definition.specs.declared.ScanEnd.the-variants.{Finished}
 use Rattle.definition.proofs.Computes.{computes}
 use Rattle.definition.proofs.Image.{erased}
-use Rattle.promise.specs.Run.{Call, rescript, mount, get, contains, put, applyBatch, scanPrefix, Heard, nothing, answered, told, got, listed, Moment, Turn, made, stateAfter, mounting, turn}
+use Rattle.promise.specs.Run.{fromList, batched, Call, rescript, mount, get, contains, put, applyBatch, scanPrefix, Heard, nothing, answered, told, got, listed, Moment, Turn, made, stateAfter, mounting, turn}
 use Rattle.promise.specs.Promise.{Kept, Start, plainOf}
 use Rattle.promise.proofs.Promised.{promise}
 
@@ -57,7 +57,7 @@ cutting = 0 ∷ 0 ∷ 0x83 ∷ 3 ∷ 0 ∷ 0x7f ∷ []
 
 abbrev run : List Call
 run =
-    mount 0 0 ∷ put a (0x31 ∷ []) ∷ rescript lying 0 ∷ put a (0x32 ∷ []) ∷ get a (0 ∷ []) ∷ rescript cutting 0 ∷ applyBatch list ∷ get a (0 ∷ []) ∷ contains a
+    mount 0 0 ∷ put a (0x31 ∷ []) ∷ rescript lying 0 ∷ put a (0x32 ∷ []) ∷ get a (0 ∷ []) ∷ rescript cutting 0 ∷ applyBatch (fromList list) ∷ get a (0 ∷ []) ∷ contains a
     ∷ mount 0 6 ∷ get a (0 ∷ []) ∷ scanPrefix [] 100 (replicate 11 0) ∷ []
 
 abbrev erasedStore : Moment
@@ -80,59 +80,59 @@ abbrev failed : Answer
 failed = Refused (Driver Other)
 
 turn1 : turn (mount 0 0) erasedStore ≡ hears (answered Ok) (moment [] [] (clean 0))
-unfolding computes turn made mounting stateAfter
+unfolding computes turn made batched mounting stateAfter
 turn1 = refl
 
 turn2 : turn (put a (0x31 ∷ [])) (moment [] [] (clean 0)) ≡ hears (answered Ok) (moment (holds 0x31 ∷ []) [] (clean 0))
-unfolding computes turn made mounting stateAfter
+unfolding computes turn made batched mounting stateAfter
 turn2 = refl
 
 turn3 : turn (rescript lying 0) (moment (holds 0x31 ∷ []) [] (clean 0)) ≡ hears nothing (moment (holds 0x31 ∷ []) lying (clean 0))
-unfolding computes turn made mounting stateAfter
+unfolding computes turn made batched mounting stateAfter
 turn3 = refl
 
 -- refused, and done: this one is in
 turn4 : turn (put a (0x32 ∷ [])) (moment (holds 0x31 ∷ []) lying (clean 0)) ≡ hears (answered failed) (moment (holds 0x32 ∷ []) lying (clean 1))
-unfolding computes turn made mounting stateAfter
+unfolding computes turn made batched mounting stateAfter
 turn4 = refl
 
 turn5 : turn (get a (0 ∷ [])) (moment (holds 0x32 ∷ []) lying (clean 1)) ≡ hears (got (Get.Found 1) (0x32 ∷ [])) (moment (holds 0x32 ∷ []) lying (clean 1))
-unfolding computes turn made mounting stateAfter
+unfolding computes turn made batched mounting stateAfter
 turn5 = refl
 
 turn6 : turn (rescript cutting 0) (moment (holds 0x32 ∷ []) lying (clean 1)) ≡ hears nothing (moment (holds 0x32 ∷ []) cutting (clean 0))
-unfolding computes turn made mounting stateAfter
+unfolding computes turn made batched mounting stateAfter
 turn6 = refl
 
 -- 16: this one is in too, as the remount will show
-turn7 : turn (applyBatch list) (moment (holds 0x32 ∷ []) cutting (clean 0))
+turn7 : turn (applyBatch (fromList list)) (moment (holds 0x32 ∷ []) cutting (clean 0))
     ≡ hears (answered (Refused CommitUncertain)) (moment committed cutting (some (state Pending 4 false)))
-unfolding computes turn made mounting stateAfter
+unfolding computes turn made batched mounting stateAfter
 turn7 = refl
 
 -- the power goes while it recovers
 turn8 : turn (get a (0 ∷ [])) (moment committed cutting (some (state Pending 4 false)))
     ≡ hears (got (Get.Refused (Driver Other)) (0 ∷ [])) (moment committed cutting (some (state Pending 6 true)))
-unfolding computes turn made mounting stateAfter
+unfolding computes turn made batched mounting stateAfter
 turn8 = refl
 
 turn9 : turn (contains a) (moment committed cutting (some (state Pending 6 true)))
     ≡ hears (told (Truth.Refused (Driver Other))) (moment committed cutting (some (state Pending 6 true)))
-unfolding computes turn made mounting stateAfter
+unfolding computes turn made batched mounting stateAfter
 turn9 = refl
 
 turn10 : turn (mount 0 6) (moment committed cutting (some (state Pending 6 true))) ≡ hears (answered Ok) (moment (holds 0x33 ∷ []) cutting (clean 6))
-unfolding computes turn made mounting stateAfter
+unfolding computes turn made batched mounting stateAfter
 turn10 = refl
 
 turn11 : turn (get a (0 ∷ [])) (moment (holds 0x33 ∷ []) cutting (clean 6)) ≡ hears (got (Get.Found 1) (0x33 ∷ [])) (moment (holds 0x33 ∷ []) cutting (clean 6))
-unfolding computes turn made mounting stateAfter
+unfolding computes turn made batched mounting stateAfter
 turn11 = refl
 
 turn12 : turn (scanPrefix [] 100 (replicate 11 0)) (moment (holds 0x33 ∷ []) cutting (clean 6))
     ≡ hears (listed (record { end = Finished; count = 1; length = 11 }) (0x0b ∷ 0 ∷ 0 ∷ 0 ∷ 1 ∷ 0 ∷ 1 ∷ 0 ∷ 1 ∷ 0x61 ∷ 0x33 ∷ []))
     (moment (holds 0x33 ∷ []) cutting (clean 6))
-unfolding computes turn made mounting stateAfter
+unfolding computes turn made batched mounting stateAfter
 turn12 = refl
 
 -- ---- and all of it as one fact

@@ -1,5 +1,5 @@
 -- Every call on a region that stands for a plain map is answered as the map may answer it, and leaves a region that stands for the map after it.
-use mathlib.Core.Path.{_≡_, refl, ap, _∙_, subst}
+use mathlib.Core.Path.{_≡_, refl, sym, ap, _∙_, subst}
 use mathlib.Core.Bool.{Bool, true, false}
 use mathlib.Core.List.{List, [], _∷_}
 use mathlib.Core.Option.{Option, none, some}
@@ -14,7 +14,6 @@ use Rattle.definition.specs.Program.{Prog, World, world, exec, flat}
 use Rattle.definition.specs.Calls.{Said, batchOf, regionFault}
 use Rattle.definition.specs.Calls as Calls
 use Rattle.definition.specs.Scan.{rising, beyond}
-use Rattle.definition.specs.OperationList.{opsOf}
 use Rattle.definition.specs.Public.{Outcome, outcome, state, begin, public}
 use Rattle.definition.specs.Public as Public
 use Rattle.definition.specs.declared.State.{State}
@@ -38,7 +37,7 @@ use Rattle.definition.proofs.Answers as Answers
 use Rattle.definition.proofs.Batches as Batches
 use Rattle.definition.proofs.Listings as Listings
 use Rattle.definition.proofs.Scans as Scans
-use Rattle.promise.specs.Run.{Call, rescript, mount, get, contains, put, delete, applyBatch, scanPrefix, Heard, answered, told, got, listed, refusalOf, Moment, made, stateAfter, mounting, turn, later}
+use Rattle.promise.specs.Run.{Source, fromList, fromPool, operations, batched, Call, rescript, mount, get, contains, put, delete, applyBatch, scanPrefix, Heard, answered, told, got, listed, refusalOf, Moment, made, stateAfter, mounting, turn, later}
 use Rattle.promise.specs.Promise.{Plain, after, afterAll, rises, AllOf, Kept, end, then}
 use Rattle.promise.specs.Promise as P
 use Rattle.promise.specs.Beside.{handed, untouched, FirstOf, Ended, wrote, Shows, Shown}
@@ -146,8 +145,8 @@ module _ (len : ℕ) where
     delete-done {key} (Answers.delete-in {h = h} {s = s} c m) = also h s (after-is (Delete key) A) (delete-in-of (caused-item _ c)) tt m
     delete-done (Answers.delete-out c m) = done A (out-of refl (item-outright _ (caused-item _ c))) tt m
 
-    batch-done : {list : Bytes} {ops : List Op} {r : Said Answer} {s : Bytes} → opsOf list ≡ some ops
-        → Batches.BatchSays flat flat-laws base len ItemFault A ops r s → Done A (applyBatch list) (answered (r .answer)) (r .health) s
+    batch-done : {source : Source} {ops : List Op} {r : Said Answer} {s : Bytes} → operations source ≡ some ops
+        → Batches.BatchSays flat flat-laws base len ItemFault A ops r s → Done A (applyBatch source) (answered (r .answer)) (r .health) s
     unfolding refusalOf refusal Shows
     batch-done {ops = ops} e (Batches.batch-done {h = h} {s = s} m) = also h s (afterAll-is ops A) (P.ok (P.batch-ok e)) tt m
     batch-done {ops = ops} e (Batches.batch-committed {h = h} {s = s} m) = also h s (afterAll-is ops A) (P.committed (P.batch-ok e)) tt m
@@ -218,18 +217,26 @@ module _ (len : ℕ) where
         call _ (λ r. listed (r .answer) (r .output)) output
         (Scans.scan-ensures rising rising-order flat flat-laws base len ItemFault A prefix most (length output) (st .health) region m) (λ r w q. scan-done q)
 
-    -- a list that is no list of operations is refused, and changes nothing
-    list-ensures : (list : Bytes)
-        → Ensures ItemFault (λ r s. Done A (applyBatch list) (answered (r .answer)) (r .health) s) Never (batchOf flat (opsOf list) (st .health)) region
+    -- what gives no operations is refused, and changes nothing
+    source-ensures : (source : Source)
+        → Ensures ItemFault (λ r s. Done A (applyBatch source) (answered (r .answer)) (r .health) s) Never
+        (batchOf flat (operations source) (st .health)) region
     unfolding batchOf outright number pick refusalOf refusal Shows
-    list-ensures list =
-        by-option (opsOf list) _ _ (λ e. by-ret (done A (out-of refl refl) tt m))
+    source-ensures source =
+        by-option (operations source) _ _ (λ e. by-ret (done A (out-of refl refl) tt m))
         (λ ops e. weaken (Batches.batch-ensures flat flat-laws base len ItemFault item-not-13 A ops (st .health) region m) (λ r s q. batch-done e q) (λ f s x. x))
 
-    batch-call : (list : Bytes)
-        → let r = Public.applyBatch region script st list in Done A (applyBatch list) (answered (r .answer)) (r .state .health) (r .region)
-    unfolding Public.applyBatch
-    batch-call list = call Refused (λ r. answered (r .answer)) [] (list-ensures list) (λ r w q. q)
+    -- a batch is the same call, wherever its operations come from
+    batched-is : (source : Source) → batched source region script st ≡ public Refused (batchOf flat (operations source) (st .health)) region script st []
+    unfolding batched operations Public.applyBatch Public.applyOps
+    batched-is (fromList list) = refl
+    batched-is (fromPool ops pool) = refl
+
+    batch-call : (source : Source)
+        → let r = batched source region script st in Done A (applyBatch source) (answered (r .answer)) (r .state .health) (r .region)
+    batch-call source =
+        subst (λ (r : Outcome Answer). Done A (applyBatch source) (answered (r .answer)) (r .state .health) (r .region)) (sym (batched-is source))
+        (call Refused (λ r. answered (r .answer)) [] (source-ensures source) (λ r w q. q))
 
   -- ---- a mount, from whatever stands
 
@@ -283,9 +290,9 @@ module _ (len : ℕ) where
   take-turn A (delete key) region script (some st) m =
       let r = delete-call A region script st m key in
       record { after = r .after; step = r .step; shows = r .shows; holds = r .stands }
-  take-turn A (applyBatch list) region script none m = record { after = A; step = P.unmade; shows = tt; holds = m }
-  take-turn A (applyBatch list) region script (some st) m =
-      let r = batch-call A region script st m list in
+  take-turn A (applyBatch source) region script none m = record { after = A; step = P.unmade; shows = tt; holds = m }
+  take-turn A (applyBatch source) region script (some st) m =
+      let r = batch-call A region script st m source in
       record { after = r .after; step = r .step; shows = r .shows; holds = r .stands }
   take-turn A (scanPrefix prefix most output) region script none m = record { after = A; step = P.unmade; shows = tt; holds = m }
   take-turn A (scanPrefix prefix most output) region script (some st) m =

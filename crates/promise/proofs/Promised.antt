@@ -72,7 +72,7 @@ bad-turn A (get key output) region script g = record { step = P.unmade; shows = 
 bad-turn A (contains key) region script g = record { step = P.unmade; shows = tt; unmounted = refl; same = refl }
 bad-turn A (put key value) region script g = record { step = P.unmade; shows = tt; unmounted = refl; same = refl }
 bad-turn A (delete key) region script g = record { step = P.unmade; shows = tt; unmounted = refl; same = refl }
-bad-turn A (applyBatch list) region script g = record { step = P.unmade; shows = tt; unmounted = refl; same = refl }
+bad-turn A (applyBatch source) region script g = record { step = P.unmade; shows = tt; unmounted = refl; same = refl }
 bad-turn A (scanPrefix prefix most output) region script g = record { step = P.unmade; shows = tt; unmounted = refl; same = refl }
 
 module _ (A : Plain) where

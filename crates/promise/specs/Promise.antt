@@ -15,14 +15,13 @@ use Rattle.definition.specs.Region.{Item, fetched, records, look}
 use Rattle.definition.specs.Codec.{Op, Put, Delete, reserved, laid}
 use Rattle.definition.specs.Numbers.{number}
 use Rattle.definition.specs.Scan.{rising, begins}
-use Rattle.definition.specs.OperationList.{opsOf}
 use Rattle.definition.specs.declared.Fault.{Fault}
 use Rattle.definition.specs.declared.Fault.the-variants.{BatchCommitted, CommitUncertain}
 use Rattle.definition.specs.declared.Answer.the-variants.{Ok, Refused}
 use Rattle.definition.specs.declared.GetAnswer.the-variants as Get
 use Rattle.definition.specs.declared.TruthAnswer.the-variants as Truth
 use Rattle.definition.specs.declared.ScanEnd.the-variants as End
-use Rattle.promise.specs.Run.{Call, mount, get, contains, put, delete, applyBatch, scanPrefix, Heard, nothing, answered, told, got, listed, refusalOf, scanned, Moment, turn, later}
+use Rattle.promise.specs.Run.{Source, operations, Call, mount, get, contains, put, delete, applyBatch, scanPrefix, Heard, nothing, answered, told, got, listed, refusalOf, scanned, Moment, turn, later}
 
 -- ---- the plain map: a value, or none, for each key; what operations make of it, one behind the other; and all it has under a prefix, by rising keys
 abbrev pub Plain : Type 0
@@ -55,7 +54,7 @@ pub data Does (A : Plain) : Call → Heard → Plain → Type 0 where
   put-ok : {key value : Bytes} → Does A (put key value) (answered Ok) (after (Put key value) A)
   delete-yes : {key v : Bytes} → A key ≡ some v → Does A (delete key) (told Truth.Yes) (after (Delete key) A)
   delete-no : {key : Bytes} → A key ≡ none → Does A (delete key) (told Truth.No) A
-  batch-ok : {list : Bytes} {ops : List Op} → opsOf list ≡ some ops → Does A (applyBatch list) (answered Ok) (afterAll ops A)
+  batch-ok : {source : Source} {ops : List Op} → operations source ≡ some ops → Does A (applyBatch source) (answered Ok) (afterAll ops A)
   scan-finished : {prefix output : Bytes} {most : ℕ} {is : List Item} → AllOf prefix A is
       → Does A (scanPrefix prefix most output) (listed (scanned End.Finished is) (laid (records is) output)) A
 
@@ -65,9 +64,9 @@ pub data Step (A : Plain) : Call → Heard → Plain → Type 0 where
   -- Ok is in, and every successful get, contains and finished scan (and delete) equals the plain map
   ok : {c : Call} {h : Heard} {B : Plain} → Does A c h B → Step A c h B
   -- 15 is in; 16 is in or out
-  committed : {list : Bytes} {B : Plain} → Does A (applyBatch list) (answered Ok) B → Step A (applyBatch list) (answered (Refused BatchCommitted)) B
-  uncertain-in : {list : Bytes} {B : Plain} → Does A (applyBatch list) (answered Ok) B → Step A (applyBatch list) (answered (Refused CommitUncertain)) B
-  uncertain-out : {list : Bytes} → Step A (applyBatch list) (answered (Refused CommitUncertain)) A
+  committed : {source : Source} {B : Plain} → Does A (applyBatch source) (answered Ok) B → Step A (applyBatch source) (answered (Refused BatchCommitted)) B
+  uncertain-in : {source : Source} {B : Plain} → Does A (applyBatch source) (answered Ok) B → Step A (applyBatch source) (answered (Refused CommitUncertain)) B
+  uncertain-out : {source : Source} → Step A (applyBatch source) (answered (Refused CommitUncertain)) A
   -- a put or delete answered with an item fault (4 to 12) is in or out: in by these, out by the next
   put-in : {key value : Bytes} {f : Fault} → 4 ≤ number f → number f ≤ 12 → Step A (put key value) (answered (Refused f)) (after (Put key value) A)
   delete-in : {key : Bytes} {f : Fault} → 4 ≤ number f → number f ≤ 12 → Step A (delete key) (told (Truth.Refused f)) (after (Delete key) A)

@@ -6,10 +6,13 @@ use Prim.Native.Nat.{ℕ}
 use lib.ListN.{length}
 use Rattle.definition.specs.Tools.{Bytes, opt}
 use Rattle.definition.specs.Region.{Item, records}
+use Rattle.definition.specs.Codec.{Op}
+use Rattle.definition.specs.OperationList.{opsOf, opsOver}
 use Rattle.definition.specs.Numbers.{refusal, getRefusal, truthRefusal, scanRefusal}
 use Rattle.definition.specs.Public.{Outcome, state}
 use Rattle.definition.specs.Public as Public
 use Rattle.definition.specs.declared.State.{State}
+use Rattle.definition.specs.declared.BatchOp.{BatchOp}
 use Rattle.definition.specs.declared.Fault.{Fault}
 use Rattle.definition.specs.declared.Answer.{Answer}
 use Rattle.definition.specs.declared.Answer.the-variants.{Ok, Refused}
@@ -17,6 +20,20 @@ use Rattle.definition.specs.declared.GetAnswer.{GetAnswer}
 use Rattle.definition.specs.declared.TruthAnswer.{TruthAnswer}
 use Rattle.definition.specs.declared.ScanEnd.{ScanEnd}
 use Rattle.definition.specs.declared.Scanned.{Scanned}
+
+-- where a batch's operations come from: a list of records, or structs that name parts of one byte pool
+pub data Source : Type 0 where
+  fromList : (list : Bytes) → Source
+  fromPool : (ops : List BatchOp) (pool : Bytes) → Source
+
+-- the operations that it gives, if it is well formed
+unfoldable pub operations : Source → Option (List Op)
+operations (fromList list) = opsOf list
+operations (fromPool ops pool) = opsOver pool ops
+
+unfoldable pub batched : Source → Bytes → Bytes → State → Outcome Answer
+batched (fromList list) region script st = Public.applyBatch region script st list
+batched (fromPool ops pool) region script st = Public.applyOps region script st ops pool
 
 pub data Call : Type 0 where
   -- From now on another script, from any place in it. A script says the fate of each item call: a fault, with its effect done or not; the
@@ -28,7 +45,7 @@ pub data Call : Type 0 where
   contains : (key : Bytes) → Call
   put : (key value : Bytes) → Call
   delete : (key : Bytes) → Call
-  applyBatch : (list : Bytes) → Call
+  applyBatch : (source : Source) → Call
   scanPrefix : (prefix : Bytes) (most : ℕ) (output : Bytes) → Call
 
 -- what is heard of a call: its answer, with the output after it where it has one; nothing, of a new script and of a call that is not made
@@ -85,7 +102,7 @@ turn (get key output) m = made m (λ st. Public.get (m .region) (m .script) st k
 turn (contains key) m = made m (λ st. Public.contains (m .region) (m .script) st key) (λ r. told (r .answer))
 turn (put key value) m = made m (λ st. Public.put (m .region) (m .script) st key value) (λ r. answered (r .answer))
 turn (delete key) m = made m (λ st. Public.delete (m .region) (m .script) st key) (λ r. told (r .answer))
-turn (applyBatch list) m = made m (λ st. Public.applyBatch (m .region) (m .script) st list) (λ r. answered (r .answer))
+turn (applyBatch source) m = made m (batched source (m .region) (m .script)) (λ r. answered (r .answer))
 turn (scanPrefix prefix most output) m =
     made m (λ st. Public.scanPrefix (m .region) (m .script) st prefix most output) (λ r. listed (r .answer) (r .output))
 
