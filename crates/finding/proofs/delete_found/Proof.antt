@@ -1,8 +1,8 @@
-use Rattle.store.proofs.Finding.{delete-failed, delete-done}
+use Rattle.finding.proofs.Finding.{delete-failed, delete-done}
 use Rattle.gate.proofs.Saying.{as-truth}
 use borrow.Author.Needs.{needs}
-use Rattle.store.proofs.delete_found.Statement.{statement}
-use Rattle.store.proofs.delete_found.Tie as tie
+use Rattle.finding.proofs.delete_found.Statement.{statement}
+use Rattle.finding.proofs.delete_found.Tie as tie
 
 remove-requires : tie.Need-remove-requires
 remove-requires c κs = search needs

@@ -1,9 +1,9 @@
-use Rattle.store.proofs.Putting.{put-refused, put-stored, put-else, put-once}
+use Rattle.putting.proofs.Putting.{put-refused, put-stored, put-else, put-once}
 use Rattle.limits.proofs.Testing.{fine-allowed}
 use Rattle.gate.proofs.Saying.{as-reply, says-ret}
 use borrow.Author.Needs.{needs}
-use Rattle.store.proofs.put_once.Statement.{statement}
-use Rattle.store.proofs.put_once.Tie as tie
+use Rattle.putting.proofs.put_once.Statement.{statement}
+use Rattle.putting.proofs.put_once.Tie as tie
 
 check-put-requires : tie.Need-check-put-requires
 check-put-requires c κs = search needs

@@ -1,8 +1,8 @@
-use Rattle.store.proofs.Finding.{get-missed, get-absent, get-small, get-found}
+use Rattle.finding.proofs.Finding.{get-missed, get-absent, get-small, get-found}
 use Rattle.items.proofs.Along.{fetch-inside}
 use borrow.Author.Needs.{needs}
-use Rattle.store.proofs.get_key.Statement.{statement}
-use Rattle.store.proofs.get_key.Tie as tie
+use Rattle.finding.proofs.get_key.Statement.{statement}
+use Rattle.finding.proofs.get_key.Tie as tie
 
 fetch-requires : tie.Need-fetch-requires
 fetch-requires c κs = search needs

@@ -1,9 +1,9 @@
-use Rattle.store.proofs.Putting.{again-not, again-unready, again-on}
+use Rattle.putting.proofs.Putting.{again-not, again-unready, again-on}
 use Rattle.gate.proofs.Saying.{as-reply}
 use borrow.Author.Tests.{not-true, not-false}
 use borrow.Author.Needs.{needs}
-use Rattle.store.proofs.put_again.Statement.{statement}
-use Rattle.store.proofs.put_again.Tie as tie
+use Rattle.putting.proofs.put_again.Statement.{statement}
+use Rattle.putting.proofs.put_again.Tie as tie
 
 retries-requires : tie.Need-retries-requires
 retries-requires c κs = search needs

@@ -1,8 +1,8 @@
 use mathlib.Core.Path.{ap}
 use Rattle.definition.specs.declared.State.{State}
 use borrow.Author.Needs.{needs}
-use Rattle.store.proofs.get_reply.Statement.{statement}
-use Rattle.store.proofs.get_reply.Tie as tie
+use Rattle.finding.proofs.get_reply.Statement.{statement}
+use Rattle.finding.proofs.get_reply.Tie as tie
 
 state-of-requires : tie.Need-state-of-requires
 state-of-requires c κs = search needs

@@ -1,19 +1,14 @@
--- The forms of the store's inner contracts.
+-- The forms of a get's contracts.
 use mathlib.Core.Path.{_≡_}
 use Rattle.definition.specs.Tools.{Bytes}
 use Rattle.definition.specs.Codec.{laid}
-use Rattle.definition.specs.Program.{Prog, flat}
-use Rattle.definition.specs.Calls.{Said, putOr, putAgain}
+use Rattle.definition.specs.Program.{Prog}
+use Rattle.definition.specs.Calls.{Said}
 use Rattle.definition.specs.declared.Step.{Step}
 use Rattle.definition.specs.declared.Health.{Health}
-use Rattle.definition.specs.declared.Answer.{Answer}
 use Rattle.definition.specs.declared.GetAnswer.{GetAnswer}
 use Rattle.definition.specs.declared.GetReply.{GetReply}
 use Rattle.gate.specs.Forms.{Says, stateOf}
-
--- a put on a store that is ready
-abbrev pub putReady : Bytes → Bytes → Health → Prog Bytes (Said Answer)
-putReady k v h = putOr flat k v h (putAgain flat k v h)
 
 abbrev pub getOf : GetAnswer → Health → Step → GetReply
 getOf a h t = record { answer = a; state = stateOf h t; calls = t .calls }

@@ -1,9 +1,9 @@
-use Rattle.store.proofs.Putting.{put-refused, put-stored, put-else}
+use Rattle.putting.proofs.Putting.{put-refused, put-stored, put-else}
 use Rattle.limits.proofs.Testing.{fine-allowed}
 use Rattle.gate.proofs.Saying.{as-reply}
 use borrow.Author.Needs.{needs}
-use Rattle.store.proofs.put_ready.Statement.{statement}
-use Rattle.store.proofs.put_ready.Tie as tie
+use Rattle.putting.proofs.put_ready.Statement.{statement}
+use Rattle.putting.proofs.put_ready.Tie as tie
 
 check-put-requires : tie.Need-check-put-requires
 check-put-requires c κs = search needs

@@ -1,8 +1,8 @@
-use Rattle.store.proofs.Finding.{contains-missed, contains-no, contains-yes}
+use Rattle.finding.proofs.Finding.{contains-missed, contains-no, contains-yes}
 use Rattle.gate.proofs.Saying.{as-truth}
 use borrow.Author.Needs.{needs}
-use Rattle.store.proofs.contains_key.Statement.{statement}
-use Rattle.store.proofs.contains_key.Tie as tie
+use Rattle.finding.proofs.contains_key.Statement.{statement}
+use Rattle.finding.proofs.contains_key.Tie as tie
 
 fetch-requires : tie.Need-fetch-requires
 fetch-requires c κs = search needs

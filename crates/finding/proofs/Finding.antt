@@ -37,7 +37,7 @@ use Rattle.items.specs.Forms.{Ran, Fetches, failureOf, unfetchedOf}
 use Rattle.items.proofs.Along.{ran-done, fetch-done, fetch-inside}
 use Rattle.gate.specs.Forms.{Says, stateOf}
 use Rattle.gate.proofs.Saying.{says-as, says-ret, says-on, says-failed, says-missed}
-use Rattle.store.specs.Forms.{getOf, Gets}
+use Rattle.finding.specs.Forms.{getOf, Gets}
 
 pub get-outcome : {h : Health} {t : Step} {b out : Bytes} {a : GetAnswer} {u : GetReply} → u ≡ getOf a h t
     → outcome (u .answer) (u .state) (u .calls) b out ≡ outcome a (stateOf h t) (t .calls) b out

@@ -1,8 +1,8 @@
-use Rattle.store.proofs.Finding.{delete-missed, delete-no, delete-on}
+use Rattle.finding.proofs.Finding.{delete-missed, delete-no, delete-on}
 use Rattle.gate.proofs.Saying.{as-truth}
 use borrow.Author.Needs.{needs}
-use Rattle.store.proofs.delete_key.Statement.{statement}
-use Rattle.store.proofs.delete_key.Tie as tie
+use Rattle.finding.proofs.delete_key.Statement.{statement}
+use Rattle.finding.proofs.delete_key.Tie as tie
 
 fetch-requires : tie.Need-fetch-requires
 fetch-requires c κs = search needs
