@@ -18,7 +18,7 @@ use Rattle.definition.specs.declared.Fault.the-variants.{JournalCorrupted}
 use Rattle.definition.specs.declared.JournalPart.the-variants as J
 use Rattle.definition.specs.declared.Marker.{Marker}
 use Rattle.definition.specs.declared.Marker.the-variants.{Count, Unread}
-use Rattle.codec.specs.Forms.{MarkerReads}
+use Rattle.marks.specs.Forms.{MarkerReads}
 use Rattle.region.specs.Places.{spotted}
 use Rattle.region.specs.declared.Spot.{Spot}
 use Rattle.region.specs.declared.Spot.the-variants.{At, Nothing}

@@ -18,7 +18,8 @@ ghost use Rattle.definition.specs.Region.{good, items};
 ghost use Rattle.definition.specs.Program.{flat};
 ghost use Rattle.definition.specs.Recovery;
 ghost use Rattle.definition.specs.Recovery.{redoEntry, iterate, dropEach, journalKeys, tooMany, recoverBy};
-ghost use Rattle.codec.specs.Forms.{Short, opAs};
+ghost use Rattle.marks.specs.Forms.{Short};
+ghost use Rattle.codec.specs.Forms.{opAs};
 ghost use Rattle.items.specs.Forms.{Ran};
 ghost use Rattle.recovery.specs.Forms.{opFits};
 

@@ -1,8 +1,8 @@
 use mathlib.Core.Path.{refl}
 use Rattle.definition.specs.Codec.{journalKey, be16}
 use borrow.Author.Needs.{needs}
-use Rattle.codec.proofs.journal_key.Statement.{statement}
-use Rattle.codec.proofs.journal_key.Tie as tie
+use Rattle.marks.proofs.journal_key.Statement.{statement}
+use Rattle.marks.proofs.journal_key.Tie as tie
 
 cast-t3 : tie.Need-cast-t3
 cast-t3 c = search needs

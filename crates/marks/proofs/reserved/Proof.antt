@@ -1,7 +1,7 @@
-use Rattle.codec.proofs.Laws.{reserved-none, reserved-some}
+use Rattle.marks.proofs.Marks.{reserved-none, reserved-some}
 use borrow.Author.Needs.{needs}
-use Rattle.codec.proofs.reserved.Statement.{statement}
-use Rattle.codec.proofs.reserved.Tie as tie
+use Rattle.marks.proofs.reserved.Statement.{statement}
+use Rattle.marks.proofs.reserved.Tie as tie
 
 returns : tie.Need-returns
 returns c = reserved-none _ (c .if1 .taken)

@@ -1,8 +1,8 @@
 use mathlib.Core.Path.{refl}
 use Rattle.definition.specs.Codec.{marker, be16}
 use borrow.Author.Needs.{needs}
-use Rattle.codec.proofs.encode_marker.Statement.{statement}
-use Rattle.codec.proofs.encode_marker.Tie as tie
+use Rattle.marks.proofs.encode_marker.Statement.{statement}
+use Rattle.marks.proofs.encode_marker.Tie as tie
 
 sub-complement : tie.Need-sub-complement
 sub-complement c = search needs

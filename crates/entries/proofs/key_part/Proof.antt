@@ -1,9 +1,9 @@
-use Rattle.codec.proofs.Laws.{put-inside, delete-inside, put-key, delete-key, corrupt-key}
+use Rattle.entries.proofs.Entries.{put-inside, delete-inside, put-key, delete-key, corrupt-key}
 use native.Mathlib.Omega.{arith}
 use denote.Ref.{now}
 use borrow.Author.Needs.{needs}
-use Rattle.codec.proofs.key_part.Statement.{statement}
-use Rattle.codec.proofs.key_part.Tie as tie
+use Rattle.entries.proofs.key_part.Statement.{statement}
+use Rattle.entries.proofs.key_part.Tie as tie
 
 decode-entry-requires : tie.Need-decode-entry-requires
 decode-entry-requires c κs = search needs

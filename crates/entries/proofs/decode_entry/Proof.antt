@@ -1,7 +1,7 @@
-use Rattle.codec.proofs.Laws.{entry-head, entry-short, entry-long, entry-reserved, entry-value, entry-put, entry-delete, entry-unknown}
+use Rattle.entries.proofs.Entries.{entry-head, entry-short, entry-long, entry-reserved, entry-value, entry-put, entry-delete, entry-unknown}
 use borrow.Author.Needs.{needs}
-use Rattle.codec.proofs.decode_entry.Statement.{statement}
-use Rattle.codec.proofs.decode_entry.Tie as tie
+use Rattle.entries.proofs.decode_entry.Statement.{statement}
+use Rattle.entries.proofs.decode_entry.Tie as tie
 
 returns : tie.Need-returns
 returns c = entry-head _ (c .if1 .taken)

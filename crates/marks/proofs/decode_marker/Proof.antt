@@ -1,7 +1,7 @@
-use Rattle.codec.proofs.Laws.{marker-long, marker-torn, marker-counts}
+use Rattle.marks.proofs.Marks.{marker-long, marker-torn, marker-counts}
 use borrow.Author.Needs.{needs}
-use Rattle.codec.proofs.decode_marker.Statement.{statement}
-use Rattle.codec.proofs.decode_marker.Tie as tie
+use Rattle.marks.proofs.decode_marker.Statement.{statement}
+use Rattle.marks.proofs.decode_marker.Tie as tie
 
 returns : tie.Need-returns
 returns c = marker-long _ (c .if1 .taken)

@@ -1,7 +1,7 @@
 use mathlib.Core.Path.{refl}
 use Rattle.definition.specs.Codec.{markerKey}
-use Rattle.codec.proofs.marker_key.Statement.{statement}
-use Rattle.codec.proofs.marker_key.Tie as tie
+use Rattle.marks.proofs.marker_key.Statement.{statement}
+use Rattle.marks.proofs.marker_key.Tie as tie
 
 returns : tie.Need-returns
 unfolding markerKey
