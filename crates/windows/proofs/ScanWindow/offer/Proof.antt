@@ -1,8 +1,8 @@
 use borrow.Author.Needs.{needs}
 use native.Mathlib.Omega.{arith}
-use Rattle.scan.proofs.Windows.{window-length, offered}
-use Rattle.scan.proofs.ScanWindow.offer.Statement.{statement}
-use Rattle.scan.proofs.ScanWindow.offer.Tie as tie
+use Rattle.windows.proofs.Windows.{window-length, offered}
+use Rattle.windows.proofs.ScanWindow.offer.Statement.{statement}
+use Rattle.windows.proofs.ScanWindow.offer.Tie as tie
 
 key-of-requires : tie.Need-key-of-requires
 key-of-requires c κs = search needs

@@ -1,8 +1,8 @@
 use borrow.Author.Needs.{needs}
 use Rattle.definition.specs.Scan.{isLess}
-use Rattle.scan.proofs.Windows.{rising-is}
-use Rattle.scan.proofs.before.Statement.{statement}
-use Rattle.scan.proofs.before.Tie as tie
+use Rattle.windows.proofs.Windows.{rising-is}
+use Rattle.windows.proofs.before.Statement.{statement}
+use Rattle.windows.proofs.before.Tie as tie
 
 order-requires : tie.Need-order-requires
 order-requires c κs = search needs

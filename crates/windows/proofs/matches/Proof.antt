@@ -1,7 +1,7 @@
 use borrow.Author.Needs.{needs}
-use Rattle.scan.proofs.Windows.{skips, tests}
-use Rattle.scan.proofs.matches.Statement.{statement}
-use Rattle.scan.proofs.matches.Tie as tie
+use Rattle.windows.proofs.Windows.{skips, tests}
+use Rattle.windows.proofs.matches.Statement.{statement}
+use Rattle.windows.proofs.matches.Tie as tie
 
 key-of-requires : tie.Need-key-of-requires
 key-of-requires c κs = search needs

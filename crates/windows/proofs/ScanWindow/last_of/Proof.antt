@@ -1,8 +1,8 @@
 use borrow.Author.Needs.{needs}
 use native.Mathlib.Omega.{arith}
-use Rattle.scan.proofs.Windows.{window-last, window-none}
-use Rattle.scan.proofs.ScanWindow.last_of.Statement.{statement}
-use Rattle.scan.proofs.ScanWindow.last_of.Tie as tie
+use Rattle.windows.proofs.Windows.{window-last, window-none}
+use Rattle.windows.proofs.ScanWindow.last_of.Statement.{statement}
+use Rattle.windows.proofs.ScanWindow.last_of.Tie as tie
 
 returns : tie.Need-returns
 returns c = window-none (c .before .pre .0) _ (c .before .pre .1) (c .if1 .taken)

@@ -1,8 +1,8 @@
 use borrow.Author.Needs.{needs}
 use borrow.Author.Tests.{not-true, not-false}
-use Rattle.scan.proofs.Windows.{long-skipped, long-refused, long-fine}
-use Rattle.scan.proofs.overlong.Statement.{statement}
-use Rattle.scan.proofs.overlong.Tie as tie
+use Rattle.windows.proofs.Windows.{long-skipped, long-refused, long-fine}
+use Rattle.windows.proofs.overlong.Statement.{statement}
+use Rattle.windows.proofs.overlong.Tie as tie
 
 matches-requires : tie.Need-matches-requires
 matches-requires c κs = search needs

@@ -21,11 +21,11 @@ use Rattle.definition.proofs.Choices.{pick-yes, pick-no, opt-none, opt-some}
 use Rattle.definition.proofs.Records.{record-length}
 use Rattle.region.specs.Places.{keyAt, valueAt}
 use Rattle.slices.specs.Written.{written}
-use Rattle.scan.specs.declared.Place.{Place}
-use Rattle.scan.specs.declared.ScanWindow.{ScanWindow}
-use Rattle.scan.specs.declared.Last.{Last}
-use Rattle.scan.specs.declared.Last.the-variants.{At, Nothing}
-use Rattle.scan.specs.Forms.{Direction, placeKey, placeItem, Held, placeItems, AllHeld, lastKey, LastHeld, Lasts, filled, windowItems, Sane, Holds, put, Parts}
+use Rattle.windows.specs.declared.Place.{Place}
+use Rattle.windows.specs.declared.ScanWindow.{ScanWindow}
+use Rattle.windows.specs.declared.Last.{Last}
+use Rattle.windows.specs.declared.Last.the-variants.{At, Nothing}
+use Rattle.windows.specs.Forms.{Direction, placeKey, placeItem, Held, placeItems, AllHeld, lastKey, LastHeld, Lasts, filled, windowItems, Sane, Holds, put, Parts}
 use Rattle.definition.proofs.Windows.{last-of-end, insert-on, insert-here, insert-last}
 
 -- ---- a place

@@ -1,8 +1,8 @@
 use borrow.Author.Needs.{needs}
 use borrow.Author.Tests.{not-true, not-false}
-use Rattle.scan.proofs.Windows.{keep-skipped, keep-behind, keep-offered}
-use Rattle.scan.proofs.keep.Statement.{statement}
-use Rattle.scan.proofs.keep.Tie as tie
+use Rattle.windows.proofs.Windows.{keep-skipped, keep-behind, keep-offered}
+use Rattle.windows.proofs.keep.Statement.{statement}
+use Rattle.windows.proofs.keep.Tie as tie
 
 matches-requires : tie.Need-matches-requires
 matches-requires c κs = search needs

@@ -1,7 +1,7 @@
 use borrow.Author.Needs.{needs}
-use Rattle.scan.proofs.Windows.{beyond-at, beyond-none, last-held}
-use Rattle.scan.proofs.beyond.Statement.{statement}
-use Rattle.scan.proofs.beyond.Tie as tie
+use Rattle.windows.proofs.Windows.{beyond-at, beyond-none, last-held}
+use Rattle.windows.proofs.beyond.Statement.{statement}
+use Rattle.windows.proofs.beyond.Tie as tie
 
 enum-known-last : tie.Need-enum-known-last
 enum-known-last c = search needs

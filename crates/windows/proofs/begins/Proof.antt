@@ -4,8 +4,8 @@ use Prim.Native.Nat.{_-_}
 use lib.ListN.{length, drop}
 use Rattle.definition.specs.Scan.{begins}
 use Rattle.definition.proofs.Windows.{begins-hit, begins-miss, begins-short, begins-over}
-use Rattle.scan.proofs.begins.Statement.{statement}
-use Rattle.scan.proofs.begins.Tie as tie
+use Rattle.windows.proofs.begins.Statement.{statement}
+use Rattle.windows.proofs.begins.Tie as tie
 
 abbrev Inv-loop : tie.InvT-loop
 Inv-loop prefix key i₀ i = begins (drop i prefix) (drop i key) ≡ begins prefix key

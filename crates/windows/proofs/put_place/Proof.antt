@@ -1,7 +1,7 @@
 use borrow.Author.Needs.{needs}
-use Rattle.scan.proofs.Windows.{item-written, item-fits}
-use Rattle.scan.proofs.put_place.Statement.{statement}
-use Rattle.scan.proofs.put_place.Tie as tie
+use Rattle.windows.proofs.Windows.{item-written, item-fits}
+use Rattle.windows.proofs.put_place.Statement.{statement}
+use Rattle.windows.proofs.put_place.Tie as tie
 
 value-at-requires : tie.Need-value-at-requires
 value-at-requires c κs = search needs

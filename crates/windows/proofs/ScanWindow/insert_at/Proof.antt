@@ -1,8 +1,8 @@
 use borrow.Author.Needs.{needs}
 use Prim.Native.Nat.{_-_}
-use Rattle.scan.proofs.Windows.{noPlace, Shifted, shifted-none, shifted-eight, shifted-on, shifted-room, shifted-full}
-use Rattle.scan.proofs.ScanWindow.insert_at.Statement.{statement}
-use Rattle.scan.proofs.ScanWindow.insert_at.Tie as tie
+use Rattle.windows.proofs.Windows.{noPlace, Shifted, shifted-none, shifted-eight, shifted-on, shifted-room, shifted-full}
+use Rattle.windows.proofs.ScanWindow.insert_at.Statement.{statement}
+use Rattle.windows.proofs.ScanWindow.insert_at.Tie as tie
 
 abbrev Inv-loop : tie.InvT-loop
 Inv-loop at places₀ len carried₀ i₀ places carried i = Shifted at carried₀ places₀ len places carried i

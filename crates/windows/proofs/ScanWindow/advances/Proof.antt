@@ -1,7 +1,7 @@
 use borrow.Author.Needs.{needs}
-use Rattle.scan.proofs.Windows.{last-held, advances-at, advances-none}
-use Rattle.scan.proofs.ScanWindow.advances.Statement.{statement}
-use Rattle.scan.proofs.ScanWindow.advances.Tie as tie
+use Rattle.windows.proofs.Windows.{last-held, advances-at, advances-none}
+use Rattle.windows.proofs.ScanWindow.advances.Statement.{statement}
+use Rattle.windows.proofs.ScanWindow.advances.Tie as tie
 
 last-of-requires : tie.Need-last-of-requires
 last-of-requires c κs = search needs

@@ -2,10 +2,10 @@ use borrow.Author.Needs.{needs}
 use borrow.Author.Tests.{not-true, not-false}
 use Prim.Native.Nat.{_-_}
 use Rattle.definition.specs.Scan.{rising}
-use Rattle.scan.specs.Forms.{windowItems}
-use Rattle.scan.proofs.Windows.{window-held, Passed, passed-none, passed-on, passed-here, passed-all}
-use Rattle.scan.proofs.ScanWindow.position.Statement.{statement}
-use Rattle.scan.proofs.ScanWindow.position.Tie as tie
+use Rattle.windows.specs.Forms.{windowItems}
+use Rattle.windows.proofs.Windows.{window-held, Passed, passed-none, passed-on, passed-here, passed-all}
+use Rattle.windows.proofs.ScanWindow.position.Statement.{statement}
+use Rattle.windows.proofs.ScanWindow.position.Tie as tie
 
 abbrev Inv-loop : tie.InvT-loop
 Inv-loop region key places len i₀ i = Passed rising key (windowItems region (record { places = places; len = len })) i
