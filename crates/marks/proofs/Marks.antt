@@ -1,15 +1,16 @@
 -- What each return of the functions says, over plain variables.
 use mathlib.Core.Path.{_≡_, refl, sym, ap, _∙_}
-use mathlib.Core.Bool.{false}
+use mathlib.Core.Bool.{true, false}
 use mathlib.Core.List.{[], _∷_}
-use Prim.Native.Nat.{ℕ, _-_, _<_}
+use Prim.Native.Nat.{ℕ, _-_, _/_, _<_}
 use native.Mathlib.Omega.{arith}
 use lib.ListN.{length, getD}
-use lib.Dec.{eqb}
+use lib.Dec.{eqb, ltb}
 use borrow.Author.Tests.{ne-eqb, eq-eqb}
 use Rattle.definition.specs.Tools.{Bytes}
 use Rattle.definition.specs.Codec.{reserved, be16At, markerOf}
-use Rattle.definition.proofs.Choices.{picked, passed}
+use Rattle.definition.specs.Recovery.{tooMany}
+use Rattle.definition.proofs.Choices.{picked, passed, pick-yes, pick-no}
 use Rattle.definition.specs.declared.Marker.the-variants.{Count, Unread}
 use Rattle.marks.specs.Forms.{MarkerReads}
 
@@ -40,3 +41,13 @@ module _ (v : Bytes) where
     marker-counts l e =
         let z : be16At v 2 ≡ 65535 - be16At v 0 = sym eb ∙ e ∙ ap (λ x. 65535 - x) ea in
         record { is = picked _ _ _ (eq-eqb _ _ h) (picked _ _ _ (eq-eqb _ _ z) (ap Count ea)); short = l }
+
+-- ---- a marker's count
+
+pub many-erased : (len count : ℕ) → count ≡ 65535 → true ≡ tooMany len count
+unfolding tooMany
+many-erased len count e = sym (pick-yes _ _ (eq-eqb _ _ e))
+
+pub many-else : (len count : ℕ) → (count ≡ 65535 → ⊥) → ltb (len / 15) count ≡ tooMany len count
+unfolding tooMany
+many-else len count e = sym (pick-no _ _ (ne-eqb _ _ e))

@@ -1,9 +1,10 @@
-// The bookkeeping keys and the marker: document 01, "Codecs". Every function takes any input and equals its definition in
-// `definition/specs/Codec`; `codec` passes them on.
+// The bookkeeping keys and the marker: document 01, "Codecs", and of "Recovery and health" the test of a marker's count. Every function takes any
+// input and equals its definition in `definition/specs/Codec` and `Recovery`; `codec` passes the codecs on.
 use definition::Marker;
 ghost use mathlib.Core.Path.{_≡_};
 ghost use Rattle.definition.specs.Codec;
 ghost use Rattle.definition.specs.Codec.{journalKey, marker, markerKey};
+ghost use Rattle.definition.specs.Recovery.{tooMany};
 ghost use Rattle.marks.specs.Forms.{MarkerReads};
 
 // Whether a key is a bookkeeping key.
@@ -54,4 +55,14 @@ pub fn decode_marker(bytes: &[u8]) -> Marker
         return Marker::Unread;
     }
     Marker::Count(count)
+}
+
+// Whether a marker's count cannot be a batch's: the erased pattern, or more entries than the region could hold.
+pub fn too_many(len: usize, count: usize) -> bool
+    ensures { λ r. ⌜ r ≡ tooMany len count ⌝ }
+{
+    if count == 65535 {
+        return true;
+    }
+    len / 15 < count
 }

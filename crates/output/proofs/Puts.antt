@@ -11,7 +11,7 @@ use lib.Seq.{drop-cons}
 use Rattle.io.specs.Digits.{glyph, digits, Fewest}
 use Rattle.definition.specs.Tools.{Bytes}
 use Rattle.definition.proofs.Choices.{pick-yes, pick-no}
-use Rattle.text.specs.Waiting.{Waiting, waits, addByte, addBytes, decimalIn, decimalOf, hexOf}
+use Rattle.output.specs.Waiting.{Waiting, waits, addByte, addBytes, decimalIn, decimalOf, hexOf}
 
 -- ---- one byte
 

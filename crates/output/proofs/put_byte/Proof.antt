@@ -1,7 +1,7 @@
-use Rattle.text.proofs.Puts.{added, flushed}
+use Rattle.output.proofs.Puts.{added, flushed}
 use borrow.Author.Needs.{needs}
-use Rattle.text.proofs.put_byte.Statement.{statement}
-use Rattle.text.proofs.put_byte.Tie as tie
+use Rattle.output.proofs.put_byte.Statement.{statement}
+use Rattle.output.proofs.put_byte.Tie as tie
 
 slice-write-out : tie.Need-slice-write-out
 slice-write-out c = search needs

@@ -1,7 +1,7 @@
 use borrow.Author.Tests.{lt-ltb, le-ltb}
 use borrow.Author.Needs.{needs}
-use Rattle.text.proofs.glyph.Statement.{statement}
-use Rattle.text.proofs.glyph.Tie as tie
+use Rattle.output.proofs.glyph.Statement.{statement}
+use Rattle.output.proofs.glyph.Tie as tie
 
 add-result : tie.Need-add-result
 add-result c = search needs

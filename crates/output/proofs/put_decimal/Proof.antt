@@ -1,9 +1,9 @@
 use mathlib.Core.Path.{ap, _∙_}
-use Rattle.text.specs.Waiting.{addBytes}
-use Rattle.text.proofs.Puts.{digits-are}
+use Rattle.output.specs.Waiting.{addBytes}
+use Rattle.output.proofs.Puts.{digits-are}
 use borrow.Author.Needs.{needs}
-use Rattle.text.proofs.put_decimal.Statement.{statement}
-use Rattle.text.proofs.put_decimal.Tie as tie
+use Rattle.output.proofs.put_decimal.Statement.{statement}
+use Rattle.output.proofs.put_decimal.Tie as tie
 
 decimal-requires : tie.Need-decimal-requires
 decimal-requires c κs = search needs

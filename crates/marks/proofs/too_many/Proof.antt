@@ -1,6 +1,6 @@
-use Rattle.recovery.proofs.Recovering.{many-erased, many-else}
-use Rattle.recovery.proofs.too_many.Statement.{statement}
-use Rattle.recovery.proofs.too_many.Tie as tie
+use Rattle.marks.proofs.Marks.{many-erased, many-else}
+use Rattle.marks.proofs.too_many.Statement.{statement}
+use Rattle.marks.proofs.too_many.Tie as tie
 
 returns : tie.Need-returns
 returns c = many-erased _ _ (c .if1 .taken)

@@ -2,10 +2,10 @@ use borrow.Author.Needs.{needs}
 use Prim.Native.Nat.{_-_}
 use mathlib.Core.Path.{_≡_, refl}
 use lib.ListN.{length, drop}
-use Rattle.text.specs.Waiting.{waits, addBytes}
-use Rattle.text.proofs.Puts.{put-more, put-all}
-use Rattle.text.proofs.put.Statement.{statement}
-use Rattle.text.proofs.put.Tie as tie
+use Rattle.output.specs.Waiting.{waits, addBytes}
+use Rattle.output.proofs.Puts.{put-more, put-all}
+use Rattle.output.proofs.put.Statement.{statement}
+use Rattle.output.proofs.put.Tie as tie
 
 abbrev Inv-loop : tie.InvT-loop
 Inv-loop out₀ used text used₀ i₀ out used' i =

@@ -2,10 +2,10 @@ use borrow.Author.Needs.{needs}
 use Prim.Native.Nat.{_-_}
 use mathlib.Core.Path.{_≡_, refl, ap, sym, _∙_}
 use lib.ListN.{length, drop}
-use Rattle.text.specs.Waiting.{waits, addBytes, hexOf}
-use Rattle.text.proofs.Puts.{hex-more, hex-all}
-use Rattle.text.proofs.put_hex.Statement.{statement}
-use Rattle.text.proofs.put_hex.Tie as tie
+use Rattle.output.specs.Waiting.{waits, addBytes, hexOf}
+use Rattle.output.proofs.Puts.{hex-more, hex-all}
+use Rattle.output.proofs.put_hex.Statement.{statement}
+use Rattle.output.proofs.put_hex.Tie as tie
 
 abbrev Inv-loop : tie.InvT-loop
 Inv-loop out₀ used bytes used₀ i₀ out used' i =

@@ -1,8 +1,8 @@
 use native.Mathlib.Omega.{arith}
 use lib.ListN.{length-take}
 use borrow.Author.Needs.{needs}
-use Rattle.text.proofs.flush.Statement.{statement}
-use Rattle.text.proofs.flush.Tie as tie
+use Rattle.output.proofs.flush.Statement.{statement}
+use Rattle.output.proofs.flush.Tie as tie
 
 slice-aggregate-write-all : tie.Need-slice-aggregate-write-all
 slice-aggregate-write-all c = simp length-take (omega arith)

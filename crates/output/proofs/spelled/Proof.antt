@@ -4,8 +4,8 @@ use Prim.Native.Nat.{ℕ, _/_, _%_}
 use native.Mathlib.Omega.{arith}
 use Rattle.io.specs.Digits.{glyph}
 use borrow.Author.Needs.{needs}
-use Rattle.text.proofs.spelled.Statement.{statement}
-use Rattle.text.proofs.spelled.Tie as tie
+use Rattle.output.proofs.spelled.Statement.{statement}
+use Rattle.output.proofs.spelled.Tie as tie
 
 glyph-requires : tie.Need-glyph-requires
 glyph-requires c κs = search needs
