@@ -156,12 +156,9 @@ impl Key {
 pub fn check_op(key: &[u8], value: &[u8]) -> Checked
     ensures { λ r. ⌜ Checks (opFault (Put (now (key .entry)) (now (value .entry)))) (now (key .entry)) (now (value .entry)) r ⌝ }
 {
-    if Key::MAX_LEN < key.len() {
-        return Checked::Refused(Fault::CapacityExceeded(
-            CapacityKind::Key,
-            key.len(),
-            Key::MAX_LEN,
-        ));
+    let len = key.len();
+    if Key::MAX_LEN < len {
+        return Checked::Refused(Fault::CapacityExceeded(CapacityKind::Key, len, Key::MAX_LEN));
     }
     if reserved(key) {
         return Checked::Refused(Fault::ReservedKey);

@@ -1,3 +1,7 @@
+pub mod Computes
+pub mod Examples
+pub mod Session
+pub mod Against
 pub mod Choices
 pub mod Running
 pub mod Codecs
@@ -6,11 +10,7 @@ pub mod Items
 pub mod Image
 pub mod Windows
 pub mod ScanRuns
-pub mod Computes
-pub mod Examples
 pub mod Determined
-pub mod Otherwise
-pub mod Session
 -- What the promise rests on, over any map of items: it stands here so that an edit of the definition which breaks it is refused here.
 pub mod Ensures
 pub mod MapLaws

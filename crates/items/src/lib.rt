@@ -46,14 +46,14 @@ pub fn store(region: &mut [u8], script: &[u8], key: &[u8], value: &[u8], step: S
 {
     let next = script::stepped(script, step);
     let verdict = script::fate(script, step);
-    let Verdict::Fail(fault, effect) = verdict else {
+    let Verdict::Fail(fault, lands) = verdict else {
         let stored = region::store(region, key, value);
         let Stored::Done = stored else {
             return ItemAnswer::Failed(Fault::FullStorage, next);
         };
         return ItemAnswer::Done(next);
     };
-    if effect {
+    if lands {
         region::store(region, key, value);
         return ItemAnswer::Failed(fault, next);
     }

@@ -4,10 +4,15 @@ use crate::text::Text;
 
 const LINES: usize = 170;
 
-struct Draw(u64);
+pub struct Draw(u64);
 
 impl Draw {
-    fn below(&mut self, limit: u64) -> u64 {
+    /// A seed's own numbers; mixing keeps neighbouring seeds apart.
+    pub fn new(seed: u64) -> Self {
+        Draw(seed.wrapping_mul(0x9e37_79b9_7f4a_7c15) | 1)
+    }
+
+    pub fn below(&mut self, limit: u64) -> u64 {
         self.0 ^= self.0 << 13;
         self.0 ^= self.0 >> 7;
         self.0 ^= self.0 << 17;
@@ -55,7 +60,7 @@ impl Draw {
         }
     }
 
-    fn line(&mut self) -> String {
+    pub fn line(&mut self) -> String {
         match self.below(40) {
             0..=6 => self.script(),
             7 => format!("mount {}", [8192, 8192, 12288, 4096][self.below(4) as usize]),
