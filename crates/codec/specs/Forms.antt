@@ -2,20 +2,16 @@
 use mathlib.Core.Path.{_≡_}
 use mathlib.Core.List.{_∷_, _++_}
 use mathlib.Core.Option.{Option, none, some}
-use Prim.Native.Nat.{ℕ, _+_, _-_, _≤_, _<_}
+use Prim.Native.Nat.{ℕ, _-_, _≤_}
 use lib.ListN.{length, replicate}
 use lib.Dec.{ltb}
 use Rattle.definition.specs.Tools.{Bytes, pick, opt}
-use Rattle.definition.specs.Codec.{Op, Put, Delete, keyRead, keyIn, markerOf, entryOf, opFault, encode, encodeInto, laidIf}
+use Rattle.definition.specs.Codec.{Op, Put, Delete, keyRead, keyIn, opFault, encode, encodeInto, laidIf}
 use Rattle.definition.specs.declared.Fault.{Fault}
 use Rattle.definition.specs.declared.Fault.the-variants.{Serialization}
 use Rattle.definition.specs.declared.SerializationKind.the-variants.{BufferTooSmall}
 use Rattle.definition.specs.declared.CodecAnswer.{CodecAnswer}
 use Rattle.definition.specs.declared.CodecAnswer.the-variants.{Len, Refused}
-use Rattle.definition.specs.declared.Marker.{Marker}
-use Rattle.definition.specs.declared.Marker.the-variants.{Count, Unread}
-use Rattle.definition.specs.declared.Entry.{Entry}
-use Rattle.definition.specs.declared.Entry.the-variants as E
 use Rattle.codec.specs.declared.OpKind.{OpKind}
 use Rattle.codec.specs.declared.OpKind.the-variants as K
 use Rattle.codec.specs.declared.Checked.{Checked}
@@ -39,25 +35,6 @@ pub record KeyReads (s : Bytes) (answer : CodecAnswer) (bytes : Bytes) (len : �
   pub is : answer ≡ keyRead s
   pub key : bytes ≡ padded (keyIn answer s)
   pub long : len ≡ length (keyIn answer s)
-
--- a marker's count has two bytes
-abbrev pub Short : Marker → Type 0
-Short (Count n) = n < 65536
-Short Unread = Unit {0}
-
-pub record MarkerReads (v : Bytes) (m : Marker) : Type 0 where
-  pub is : m ≡ markerOf v
-  pub short : Short m
-
--- the key of an entry that is not corrupt lies inside and may be stored, and so does the value of a put
-abbrev pub Inside : Bytes → Entry → Type 0
-Inside v (E.Put n) = (2 + n ≤ length v) × (n ≤ 96) × (length v ≤ 258 + n)
-Inside v (E.Delete n) = (2 + n ≤ length v) × (n ≤ 96)
-Inside v E.Corrupt = Unit {0}
-
-pub record EntryReads (v : Bytes) (e : Entry) : Type 0 where
-  pub is : e ≡ entryOf v
-  pub inside : Inside v e
 
 -- the tests' answer
 unfoldable pub checkedOf : Option Fault → Checked

@@ -1,18 +1,24 @@
-// Document 01, "Codecs": keys and their order, the marker, the journal key and the journal entry. Every function takes any input and
-// equals its definition in `definition/specs/Codec`.
+// Document 01, "Codecs": keys and their order, and the journal entry written; the marker, the journal key and an entry read are passed on
+// from below. Every function takes any input and equals its definition in `definition/specs/Codec`.
 use definition::CapacityKind;
 use definition::CodecAnswer;
-use definition::Entry;
 use definition::Fault;
-use definition::Marker;
 use definition::Order;
 use definition::SerializationKind;
+pub use entries::decode_entry;
+pub use entries::key_part;
+pub use entries::value_part;
+pub use marks::decode_marker;
+pub use marks::encode_marker;
+pub use marks::journal_key;
+pub use marks::marker_key;
+pub use marks::reserved;
 ghost use mathlib.Core.Path.{_≡_};
 ghost use Prim.Native.Nat.{_+_, _≤_, _<_};
 ghost use lib.ListN.{length};
 ghost use Rattle.definition.specs.Codec;
-ghost use Rattle.definition.specs.Codec.{Put, keyWrite, keyBytes, keyLength, journalKey, marker, markerKey, opFault, entryOf, keyPart, valuePart, laidIf};
-ghost use Rattle.codec.specs.Forms.{padded, KeyLens, KeyReads, MarkerReads, EntryReads, EntryWrites, Encodes, Checks, opAs};
+ghost use Rattle.definition.specs.Codec.{Put, keyWrite, keyBytes, keyLength, opFault, laidIf};
+ghost use Rattle.codec.specs.Forms.{padded, KeyLens, KeyReads, EntryWrites, Encodes, Checks, opAs};
 
 // What an operation of a batch is.
 pub enum OpKind {
@@ -143,119 +149,6 @@ impl Key {
             return Order::Less;
         }
         Order::Equal
-    }
-}
-
-// Whether a key is a bookkeeping key.
-pub fn reserved(key: &[u8]) -> bool
-    ensures { λ r. ⌜ r ≡ Codec.reserved (now (key .entry)) ⌝ }
-{
-    if key.len() == 0 {
-        return false;
-    }
-    key[0] == 0
-}
-
-pub fn marker_key() -> [u8; 2]
-    ensures { λ r. ⌜ r ≡ markerKey ⌝ }
-{
-    [0, 0x63]
-}
-
-pub fn journal_key(index: u16) -> [u8; 4]
-    ensures { λ r. ⌜ r ≡ journalKey index ⌝ }
-{
-    [0, 0x6a, (index / 256) as u8, (index % 256) as u8]
-}
-
-// A marker: the count and its complement, so that a torn one does not agree with itself.
-pub fn encode_marker(count: u16) -> [u8; 4]
-    ensures { λ r. ⌜ r ≡ marker count ⌝ }
-{
-    let complement = 65535 - count;
-    [
-        (count / 256) as u8,
-        (count % 256) as u8,
-        (complement / 256) as u8,
-        (complement % 256) as u8,
-    ]
-}
-
-// The count that a marker's bytes say, if they are a marker.
-pub fn decode_marker(bytes: &[u8]) -> Marker
-    ensures { λ r. ⌜ MarkerReads (now (bytes .entry)) r ⌝ }
-{
-    if bytes.len() != 4 {
-        return Marker::Unread;
-    }
-    let count = slices::be16_at(bytes, 0);
-    let check = slices::be16_at(bytes, 2);
-    if check != 65535 - count {
-        return Marker::Unread;
-    }
-    Marker::Count(count)
-}
-
-// What a journal entry's bytes say, tested in document 01's order.
-pub fn decode_entry(entry: &[u8]) -> Entry
-    ensures { λ r. ⌜ EntryReads (now (entry .entry)) r ⌝ }
-{
-    if entry.len() < 2 {
-        return Entry::Corrupt;
-    }
-    let n = slices::wide(entry[1]);
-    let to = 2 + n;
-    if entry.len() < to {
-        return Entry::Corrupt;
-    }
-    if Key::MAX_LEN < n {
-        return Entry::Corrupt;
-    }
-    if reserved(&entry[2..to]) {
-        return Entry::Corrupt;
-    }
-    let op = entry[0];
-    if op == 0 {
-        let value = entry.len() - to;
-        if 256 < value {
-            return Entry::Corrupt;
-        }
-        return Entry::Put(n);
-    }
-    if op == 1 {
-        return Entry::Delete(n);
-    }
-    Entry::Corrupt
-}
-
-// The key part of a journal entry; an empty part where the entry is corrupt.
-pub fn key_part(entry: &[u8]) -> &[u8]
-    ensures { λ r. ⌜ now r ≡ keyPart (entryOf (now (entry .entry))) (now (entry .entry)) ⌝ }
-{
-    match decode_entry(entry) {
-        Entry::Put(n) => {
-            let to = 2 + n;
-            &entry[2..to]
-        }
-        Entry::Delete(n) => {
-            let to = 2 + n;
-            &entry[2..to]
-        }
-        Entry::Corrupt => &entry[0..0],
-    }
-}
-
-// The value part of a journal entry; an empty part where there is none.
-pub fn value_part(entry: &[u8]) -> &[u8]
-    ensures { λ r. ⌜ now r ≡ valuePart (entryOf (now (entry .entry))) (now (entry .entry)) ⌝ }
-{
-    match decode_entry(entry) {
-        Entry::Put(n) => {
-            let from = 2 + n;
-            &entry[from..]
-        }
-        Entry::Delete(n) => &entry[0..0],
-        Entry::Corrupt => &entry[0..0],
     }
 }
 

@@ -175,38 +175,38 @@ fn unhex(word: &[u8], out: &mut [u8]) -> Filled
 // ---- writing
 
 fn bad_line(out: &mut [u8], run: Run) -> Run {
-    let waiting = text::put(out, run.waiting, b"bad line\n");
+    let waiting = output::put(out, run.waiting, b"bad line\n");
     run.waits(waiting)
 }
 
 fn put_bytes(out: &mut [u8], waiting: usize, bytes: &[u8]) -> usize {
     if bytes.len() == 0 {
-        return text::put(out, waiting, b"-");
+        return output::put(out, waiting, b"-");
     }
-    text::put_hex(out, waiting, bytes)
+    output::put_hex(out, waiting, bytes)
 }
 
 fn put_truth(out: &mut [u8], waiting: usize, truth: bool) -> usize {
     if truth {
-        return text::put(out, waiting, b"yes");
+        return output::put(out, waiting, b"yes");
     }
-    text::put(out, waiting, b"no")
+    output::put(out, waiting, b"no")
 }
 
 fn put_refused(out: &mut [u8], waiting: usize, fault: definition::Fault) -> usize {
-    let waiting = text::put(out, waiting, b"refused ");
-    text::put_decimal(out, waiting, numbers::number(fault) as u64)
+    let waiting = output::put(out, waiting, b"refused ");
+    output::put_decimal(out, waiting, numbers::number(fault) as u64)
 }
 
 // How an item call's line ends.
 fn put_step(out: &mut [u8], waiting: usize, step: Step) -> usize {
-    let waiting = text::put(out, waiting, b" calls ");
-    let waiting = text::put_decimal(out, waiting, step.calls);
-    let waiting = text::put(out, waiting, b" at ");
-    let waiting = text::put_decimal(out, waiting, step.at as u64);
-    let waiting = text::put(out, waiting, b" cut ");
+    let waiting = output::put(out, waiting, b" calls ");
+    let waiting = output::put_decimal(out, waiting, step.calls);
+    let waiting = output::put(out, waiting, b" at ");
+    let waiting = output::put_decimal(out, waiting, step.at as u64);
+    let waiting = output::put(out, waiting, b" cut ");
     let waiting = put_truth(out, waiting, step.cut);
-    text::put(out, waiting, b"\n")
+    output::put(out, waiting, b"\n")
 }
 
 // ---- a region and a script
@@ -303,24 +303,24 @@ fn written_end(region: &[u8]) -> usize
 }
 
 fn say_good(region: &[u8], out: &mut [u8], run: Run) -> Run {
-    let waiting = text::put(out, run.waiting, b"good ");
+    let waiting = output::put(out, run.waiting, b"good ");
     let waiting = put_truth(out, waiting, region::is_good(region));
-    let waiting = text::put(out, waiting, b"\n");
+    let waiting = output::put(out, waiting, b"\n");
     run.waits(waiting)
 }
 
 fn say_bytes(region: &[u8], out: &mut [u8], run: Run) -> Run {
-    let waiting = text::put(out, run.waiting, b"bytes ");
+    let waiting = output::put(out, run.waiting, b"bytes ");
     let end = written_end(region);
     let waiting = put_bytes(out, waiting, &region[..end]);
-    let waiting = text::put(out, waiting, b"\n");
+    let waiting = output::put(out, waiting, b"\n");
     run.waits(waiting)
 }
 
 fn say_used(region: &[u8], out: &mut [u8], run: Run) -> Run {
-    let waiting = text::put(out, run.waiting, b"used ");
-    let waiting = text::put_decimal(out, waiting, region::used(region) as u64);
-    let waiting = text::put(out, waiting, b"\n");
+    let waiting = output::put(out, run.waiting, b"used ");
+    let waiting = output::put_decimal(out, waiting, region::used(region) as u64);
+    let waiting = output::put(out, waiting, b"\n");
     run.waits(waiting)
 }
 
@@ -328,10 +328,10 @@ fn say_used(region: &[u8], out: &mut [u8], run: Run) -> Run {
 
 // A store's, a removal's or an opening's answer.
 fn say_item(out: &mut [u8], name: &[u8], answer: ItemAnswer, place: usize, run: Run) -> Run {
-    let waiting = text::put(out, run.waiting, name);
+    let waiting = output::put(out, run.waiting, name);
     match answer {
         ItemAnswer::Done(step) => {
-            let waiting = text::put(out, waiting, b"ok");
+            let waiting = output::put(out, waiting, b"ok");
             let waiting = put_step(out, waiting, step);
             run.steps(step, place).waits(waiting)
         }
@@ -404,15 +404,15 @@ fn put_found(region: &[u8], out: &mut [u8], waiting: usize, spot: Spot) -> usize
     requires { ⌜ InSpot (now region) spot ⌝ }
 {
     let Spot::At(at, len) = spot else {
-        return text::put(out, waiting, b"absent");
+        return output::put(out, waiting, b"absent");
     };
-    let waiting = text::put(out, waiting, b"found ");
+    let waiting = output::put(out, waiting, b"found ");
     put_bytes(out, waiting, slices::part(region, at, len))
 }
 
 fn put_fetched(region: &[u8], script: &[u8], out: &mut [u8], key: &[u8], run: Run) -> Run {
     let place = run.place;
-    let waiting = text::put(out, run.waiting, b"fetch ");
+    let waiting = output::put(out, run.waiting, b"fetch ");
     match items::fetch(region, script, key, run.step) {
         FetchAnswer::Got(spot, step) => {
             let waiting = put_found(region, out, waiting, spot);
@@ -447,11 +447,11 @@ fn put_met(region: &[u8], out: &mut [u8], waiting: usize, place: usize, met: Nex
     requires { ⌜ Visit (now region) place met ⌝ }
 {
     let Next::Item(klen, vlen, _) = met else {
-        return text::put(out, waiting, b"none");
+        return output::put(out, waiting, b"none");
     };
-    let waiting = text::put(out, waiting, b"item ");
+    let waiting = output::put(out, waiting, b"item ");
     let waiting = put_bytes(out, waiting, region::key_at(region, place, klen));
-    let waiting = text::put(out, waiting, b" ");
+    let waiting = output::put(out, waiting, b" ");
     put_bytes(out, waiting, region::value_at(region, place, klen, vlen))
 }
 
@@ -465,7 +465,7 @@ fn place_after(met: Next, place: usize) -> usize {
 
 fn next_line(region: &[u8], script: &[u8], out: &mut [u8], run: Run) -> Run {
     let place = run.place;
-    let waiting = text::put(out, run.waiting, b"next ");
+    let waiting = output::put(out, run.waiting, b"next ");
     match items::iterate_next(region, script, place, run.step) {
         NextAnswer::Met(met, step) => {
             let waiting = put_met(region, out, waiting, place, met);
@@ -524,8 +524,8 @@ fn run_on_region(
     if region::is_good(region) {
         return run_on_image(region, script, out, command, first, second, run);
     }
-    let waiting = text::put(out, run.waiting, name);
-    let waiting = text::put(out, waiting, b" bad image\n");
+    let waiting = output::put(out, run.waiting, name);
+    let waiting = output::put(out, waiting, b" bad image\n");
     run.waits(waiting)
 }
 
@@ -655,5 +655,5 @@ fn main() {
     let mut line = [0u8; LINE_SIZE];
     let mut out = [0u8; OUT_SIZE];
     let waiting = run_lines(&mut region, &mut script, &mut input, &mut line, &mut out);
-    text::flush(&out, waiting);
+    output::flush(&out, waiting);
 }

@@ -21,9 +21,10 @@ use Rattle.definition.specs.declared.Entry.{Entry}
 use Rattle.definition.specs.declared.Entry.the-variants as E
 use Rattle.codec.specs.declared.OpKind.{OpKind}
 use Rattle.codec.specs.declared.OpKind.the-variants as K
-use Rattle.codec.specs.Forms.{EntryReads, opAs}
+use Rattle.entries.specs.Forms.{EntryReads}
+use Rattle.codec.specs.Forms.{opAs}
 use Rattle.recovery.specs.Forms.{opFits}
-use Rattle.codec.proofs.Laws.{put-inside}
+use Rattle.entries.proofs.Entries.{put-inside}
 use Rattle.region.specs.Places.{spotted}
 use Rattle.region.specs.declared.Spot.{Spot}
 use Rattle.region.specs.declared.Spot.the-variants.{At, Nothing}

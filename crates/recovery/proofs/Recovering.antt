@@ -2,10 +2,8 @@
 use mathlib.Core.Path.{_≡_, sym, ap, _∙_, subst}
 use mathlib.Core.Bool.{Bool, true, false}
 use mathlib.Core.Option.{Option}
-use Prim.Native.Nat.{ℕ, _-_, _/_}
+use Prim.Native.Nat.{ℕ, _-_}
 use lib.ListN.{length, take, drop}
-use lib.Dec.{ltb}
-use borrow.Author.Tests.{eq-eqb, ne-eqb}
 use Rattle.definition.specs.Tools.{Bytes, opt}
 use Rattle.definition.specs.Codec.{markerKey, markerOf}
 use Rattle.definition.specs.Region.{good}
@@ -18,7 +16,7 @@ use Rattle.definition.specs.declared.Fault.the-variants.{JournalCorrupted}
 use Rattle.definition.specs.declared.JournalPart.the-variants as J
 use Rattle.definition.specs.declared.Marker.{Marker}
 use Rattle.definition.specs.declared.Marker.the-variants.{Count, Unread}
-use Rattle.codec.specs.Forms.{MarkerReads}
+use Rattle.marks.specs.Forms.{MarkerReads}
 use Rattle.region.specs.Places.{spotted}
 use Rattle.region.specs.declared.Spot.{Spot}
 use Rattle.region.specs.declared.Spot.the-variants.{At, Nothing}
@@ -28,14 +26,6 @@ use Rattle.items.specs.declared.FetchAnswer.{FetchAnswer}
 use Rattle.items.specs.declared.FetchAnswer.the-variants.{Got, Missed}
 use Rattle.items.specs.Forms.{Ran, Fetches, unfetchedOf}
 use Rattle.items.proofs.Along.{ran-as, ran-runs, runs-ran, runs-see, runs-as, runs-err, failed-ran, seq-failed, seq-on, fetch-seq-failed, fetch-seq-on}
-
-pub many-erased : (len count : ℕ) → count ≡ 65535 → true ≡ tooMany len count
-unfolding tooMany
-many-erased len count e = sym (pick-yes _ _ (eq-eqb _ _ e))
-
-pub many-else : (len count : ℕ) → (count ≡ 65535 → ⊥) → ltb (len / 15) count ≡ tooMany len count
-unfolding tooMany
-many-else len count e = sym (pick-no _ _ (ne-eqb _ _ e))
 
 module _ {m : Marker} {s script : Bytes} {t : Step} where
   module _ (u : m ≡ Unread) {b : Bytes} {a : ItemAnswer} (h : Ran (discard flat) s script t b a) where

@@ -17,8 +17,9 @@ ghost use lib.ListN.{length, take, drop};
 ghost use Rattle.definition.specs.Region.{good, items};
 ghost use Rattle.definition.specs.Program.{flat};
 ghost use Rattle.definition.specs.Recovery;
-ghost use Rattle.definition.specs.Recovery.{redoEntry, iterate, dropEach, journalKeys, tooMany, recoverBy};
-ghost use Rattle.codec.specs.Forms.{Short, opAs};
+ghost use Rattle.definition.specs.Recovery.{redoEntry, iterate, dropEach, journalKeys, recoverBy};
+ghost use Rattle.marks.specs.Forms.{Short};
+ghost use Rattle.codec.specs.Forms.{opAs};
 ghost use Rattle.items.specs.Forms.{Ran};
 ghost use Rattle.recovery.specs.Forms.{opFits};
 
@@ -184,16 +185,6 @@ fn discard(region: &mut [u8], script: &[u8], step: Step) -> ItemAnswer
     drop_each(region, script, next)
 }
 
-// Whether a marker's count cannot be a batch's: the erased pattern, or more entries than the region could hold.
-fn too_many(len: usize, count: usize) -> bool
-    ensures { λ r. ⌜ r ≡ tooMany len count ⌝ }
-{
-    if count == 65535 {
-        return true;
-    }
-    len / 15 < count
-}
-
 // Recovery by the marker that was read.
 fn recover_by(region: &mut [u8], script: &[u8], marker: Marker, step: Step) -> ItemAnswer
     requires { ⌜ good (now region) ≡ true ⌝ }
@@ -208,7 +199,7 @@ fn recover_by(region: &mut [u8], script: &[u8], marker: Marker, step: Step) -> I
         let marker_key = codec::marker_key();
         return items::remove(region, script, &marker_key, next);
     };
-    if too_many(region.len(), count) {
+    if marks::too_many(region.len(), count) {
         return ItemAnswer::Failed(
             Fault::JournalCorrupted(JournalPart::MarkerCount(count)),
             step,

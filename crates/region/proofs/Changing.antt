@@ -17,7 +17,8 @@ use Rattle.definition.proofs.Items.{absent, used-append, used-stored}
 use Rattle.definition.proofs.Image.{records-length, records-append, used-fits, good-is-rendered, room-parts, remove-items, remove-good, remove-length, store-good, store-room, store-full}
 use Rattle.slices.specs.Written.{written}
 use Rattle.region.specs.Places.{placeOf}
-use Rattle.region.specs.Changes.{without, Now, Stores, storedBy}
+use Rattle.records.specs.Taken.{without}
+use Rattle.region.specs.Changes.{Now, Stores, storedBy}
 use Rattle.region.specs.declared.Found.the-variants as F
 use Rattle.region.specs.declared.Stored.the-variants.{Done, Full}
 use Rattle.region.proofs.Finding.{split, nowhere}

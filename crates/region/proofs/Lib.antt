@@ -1,9 +1,7 @@
 -- Laws in the shape of the code: what a function's proof cites at each of its returns and turns.
-pub mod Runs
 pub mod Heads
 pub mod Walks
 pub mod Answers
 pub mod Finding
-pub mod Copying
 pub mod Journals
 pub mod Changing

@@ -1,17 +1,10 @@
--- What the region's functions write, and what its two item calls that write leave: document 01's `storeIn` and `removeIn`, and a good image.
+-- What the region's two item calls that write leave: document 01's `storeIn` and `removeIn`, and a good image.
 use mathlib.Core.Path.{_≡_}
 use mathlib.Core.Bool.{Bool, true, false}
-use mathlib.Core.List.{_++_}
-use Prim.Native.Nat.{ℕ, _+_}
-use lib.ListN.{take, drop, replicate}
 use Rattle.definition.specs.Tools.{Bytes}
 use Rattle.definition.specs.Region.{Item, good, roomIn, storeIn}
 use Rattle.region.specs.declared.Stored.{Stored}
 use Rattle.region.specs.declared.Stored.the-variants.{Done, Full}
-
--- s without its n bytes at `at`: what follows moves down, and 0xFF fills the end
-unfoldable pub without : Bytes → ℕ → ℕ → Bytes
-without s at n = take at s ++ (drop (at + n) s ++ replicate n 255)
 
 -- b is c, and a good image
 pub record Now (b c : Bytes) : Type 0 where

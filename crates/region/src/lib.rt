@@ -1,26 +1,23 @@
 // The region's bytes: the image test, the records by place and by key, and the two item calls that write. Document 01 defines them in "The
-// region and its items"; the contracts say that each function is that definition. Nothing above this crate knows a byte of a record.
+// region and its items"; the contracts say that each function is that definition. Nothing above this crate knows a byte of a record, but
+// for the lengths and heads that it passes on from `records`.
+use records::HEAD_SIZE;
+use records::ITEM_KIND;
+pub use records::agrees;
+pub use records::header;
+pub use records::is_allowed;
+pub use records::put_record;
+pub use records::size;
+pub use records::span;
 ghost use mathlib.Core.Path.{_≡_};
 ghost use mathlib.Core.Bool.{true};
-ghost use mathlib.Core.List.{_++_};
-ghost use Prim.Native.Nat.{_+_, _-_, _≤_, _<_};
-ghost use lib.ListN.{length, take, drop, replicate};
-ghost use lib.Seq.{paste};
+ghost use Prim.Native.Nat.{_+_, _-_, _≤_};
+ghost use lib.ListN.{length, drop};
 ghost use Rattle.definition.specs.Region;
-ghost use Rattle.definition.specs.Region.{item, distinct, removed, spanOf, recordOf, allowed, blank, items, whole, good, room, removeIn};
+ghost use Rattle.definition.specs.Region.{item, distinct, removed, allowed, items, whole, good, room, removeIn};
 ghost use Rattle.definition.specs.Recovery.{isJournal};
-ghost use Rattle.slices.specs.Written.{written};
 ghost use Rattle.region.specs.Places.{Visit, placeOf, keyAt, valueAt, Fetched, FirstJournal};
-ghost use Rattle.region.specs.Changes.{without, Now, Stores};
-
-// The bytes in front of a key.
-const HEAD_SIZE: usize = 9;
-// The kind of a record that is an item.
-const ITEM_KIND: usize = 1;
-// The longest key.
-const KEY_LIMIT: usize = 96;
-// The most that a key's length byte, a key and a value take together.
-const ITEM_LIMIT: usize = 482;
+ghost use Rattle.region.specs.Changes.{Now, Stores};
 
 // What a walk meets at a place: a record's key length, value length and the next place; or the walk is over.
 pub enum Next {
@@ -46,80 +43,7 @@ pub enum Stored {
     Full,
 }
 
-// ---- one record
-
-// A record's length field.
-pub fn size(klen: usize, vlen: usize) -> usize
-    requires { ⌜ (klen < 256) × (vlen < 65536) ⌝ }
-    ensures { λ r. ⌜ r ≡ Region.size klen vlen ⌝ }
-{
-    HEAD_SIZE + klen + vlen
-}
-
-// The room that a record takes in a region.
-pub fn span(klen: usize, vlen: usize) -> usize
-    requires { ⌜ (klen < 256) × (vlen < 65536) ⌝ }
-    ensures { λ r. ⌜ r ≡ Region.span klen vlen ⌝ }
-{
-    size(klen, vlen)
-}
-
-// Whether an item may be stored.
-pub fn is_allowed(klen: usize, vlen: usize) -> bool
-    ensures { λ r. ⌜ r ≡ allowed klen vlen ⌝ }
-{
-    if klen > KEY_LIMIT {
-        return false;
-    }
-    // No sum, so that no length is too large to ask about.
-    vlen <= ITEM_LIMIT - 1 - klen
-}
-
-// The bytes in front of a key and a value.
-pub fn header(kind: usize, klen: usize, vlen: usize) -> [u8; HEAD_SIZE]
-    requires { ⌜ (klen < 256) × (vlen < 65536) ⌝ }
-    ensures { λ r. ⌜ r ≡ Region.header kind klen vlen ⌝ }
-{
-    let n = size(klen, vlen);
-    [
-        (n % 256) as u8,
-        (n / 256 % 256) as u8,
-        (n / 65536 % 256) as u8,
-        (n / 16777216 % 256) as u8,
-        (kind % 256) as u8,
-        (kind / 256 % 256) as u8,
-        (vlen % 256) as u8,
-        (vlen / 256 % 256) as u8,
-        klen as u8,
-    ]
-}
-
-// Whether a record's first bytes are those of its kind and lengths.
-pub fn agrees(bytes: &[u8], at: usize, kind: usize, klen: usize, vlen: usize) -> bool
-    requires { ⌜ at + Region.headSize ≤ length (now bytes) ⌝ }
-    requires { ⌜ (klen < 256) × (vlen < 65536) ⌝ }
-    ensures { λ r. ⌜ r ≡ Region.agrees kind klen vlen (drop at (now (bytes .entry))) ⌝ }
-{
-    let head = header(kind, klen, vlen);
-    let to = at + HEAD_SIZE;
-    slices::same(&bytes[at..to], &head)
-}
-
 // ---- what stands at a place
-
-// Whether only 0xFF stands from a place on.
-fn is_blank_from(region: &[u8], at: usize) -> bool
-    ensures { λ r. ⌜ r ≡ blank (drop at (now (region .entry))) ⌝ }
-{
-    let mut tested = at;
-    while tested < region.len() {
-        if region[tested] != 255 {
-            return false;
-        }
-        tested += 1;
-    }
-    true
-}
 
 // How many bytes stand from a place on.
 fn left_from(region: &[u8], at: usize) -> usize
@@ -218,7 +142,7 @@ fn is_whole(region: &[u8]) -> bool
     let mut at: usize = 0;
     loop {
         let Next::Item(_, _, next) = next_item(region, at) else {
-            return is_blank_from(region, at);
+            return records::is_blank_from(region, at);
         };
         at = next;
     }
@@ -313,58 +237,6 @@ pub fn first_journal(region: &[u8]) -> Spot
     }
 }
 
-// ---- bytes written
-
-// Writes a record at a place.
-pub fn put_record(dst: &mut [u8], at: usize, key: &[u8], value: &[u8])
-    requires { ⌜ (length (now key) < 256) × (length (now value) < 65536) ⌝ }
-    requires { ⌜ at + spanOf (item (now key) (now value)) ≤ length (now dst) ⌝ }
-    ensures { λ _. ⌜ now (dst .exit) ≡ written (now (dst .entry)) at (recordOf (item (now (key .entry)) (now (value .entry)))) ⌝ }
-{
-    let head = header(ITEM_KIND, key.len(), value.len());
-    slices::copy_in(dst, at, &head);
-    let key_from = at + HEAD_SIZE;
-    slices::copy_in(dst, key_from, key);
-    let value_from = key_from + key.len();
-    slices::copy_in(dst, value_from, value);
-}
-
-// Moves the bytes from `from` on down to `at`, the lowest first, so that none is overwritten before it moved.
-fn move_down(region: &mut [u8], at: usize, from: usize)
-    requires { ⌜ (at ≤ from) × (from ≤ length (now region)) ⌝ }
-    ensures { λ _. ⌜ now (region .exit) ≡ paste (now (region .entry)) at (drop from (now (region .entry))) (length (now (region .entry)) - from) ⌝ }
-{
-    let count = region.len() - from;
-    let mut moved: usize = 0;
-    while moved < count {
-        region[at + moved] = region[from + moved];
-        moved += 1;
-    }
-}
-
-// Fills with 0xFF from a place on.
-fn erase_from(region: &mut [u8], at: usize)
-    requires { ⌜ at ≤ length (now region) ⌝ }
-    ensures { λ _. ⌜ now (region .exit) ≡ take at (now (region .entry)) ++ replicate (length (now (region .entry)) - at) 255 ⌝ }
-{
-    let count = region.len() - at;
-    let mut erased: usize = 0;
-    while erased < count {
-        region[at + erased] = 255;
-        erased += 1;
-    }
-}
-
-// Takes the n bytes at a place out, closes the gap and erases what is freed.
-fn cut(region: &mut [u8], at: usize, n: usize)
-    requires { ⌜ at + n ≤ length (now region) ⌝ }
-    ensures { λ _. ⌜ now (region .exit) ≡ without (now (region .entry)) at n ⌝ }
-{
-    move_down(region, at, at + n);
-    let end = region.len() - n;
-    erase_from(region, end);
-}
-
 // ---- the item calls that write
 
 // Drops the record with a key and closes the gap; an absent key changes nothing.
@@ -376,7 +248,7 @@ pub fn remove(region: &mut [u8], key: &[u8])
         return;
     };
     let n = span(klen, vlen);
-    cut(region, at, n);
+    records::cut(region, at, n);
 }
 
 // The room that the record with a key takes, or 0.

@@ -1,3 +1,2 @@
-pub mod Windows
 pub mod Passing
 pub mod Writing

@@ -26,9 +26,10 @@ use Rattle.items.specs.declared.ItemAnswer.the-variants.{Done, Failed}
 use Rattle.items.specs.declared.NextAnswer.{NextAnswer}
 use Rattle.items.specs.declared.NextAnswer.the-variants as A
 use Rattle.items.proofs.Along.{ran-done, ran-failed, next-done, next-failed, then-on, then-failed, runs-ret, runs-err, runs-see, Left, left-start, left-as, left-end, left-turn}
-use Rattle.scan.specs.declared.Place.{Place}
-use Rattle.scan.specs.declared.ScanWindow.{ScanWindow}
-use Rattle.scan.specs.Forms.{Direction, placeItem, Held, windowItems, Sane, Holds, passRun, Passes}
+use Rattle.windows.specs.declared.Place.{Place}
+use Rattle.windows.specs.declared.ScanWindow.{ScanWindow}
+use Rattle.windows.specs.Forms.{Direction, placeItem, Held, windowItems, Sane, Holds}
+use Rattle.scan.specs.Forms.{passRun, Passes}
 
 -- the place of a record that was met
 abbrev pub placeAt : ℕ → ℕ → ℕ → Place

@@ -30,14 +30,15 @@ use Rattle.slices.specs.Written.{written}
 use Rattle.items.specs.declared.ItemAnswer.{ItemAnswer}
 use Rattle.items.specs.declared.ItemAnswer.the-variants.{Done, Failed}
 use Rattle.items.proofs.Along.{runs-ret, Left, left-as, left-end, left-turn, left-else}
-use Rattle.scan.specs.declared.ScanWindow.{ScanWindow}
-use Rattle.scan.specs.declared.Last.{Last}
-use Rattle.scan.specs.declared.Last.the-variants.{Nothing}
+use Rattle.windows.specs.declared.ScanWindow.{ScanWindow}
+use Rattle.windows.specs.declared.Last.{Last}
+use Rattle.windows.specs.declared.Last.the-variants.{Nothing}
 use Rattle.scan.specs.declared.Listing.{Listing}
-use Rattle.scan.specs.Forms.{Direction, lastKey, LastHeld, Lasts, windowItems, passRun, Passes, refusedAs, Scans}
+use Rattle.windows.specs.Forms.{Direction, lastKey, LastHeld, Lasts, windowItems}
+use Rattle.scan.specs.Forms.{passRun, Passes, refusedAs, Scans}
 use Rattle.definition.proofs.Windows.{take-more, Strict, sift, gather-length, sorted-length, sorted, above, kept-sorted, rising-sorted, above-next}
 use Rattle.definition.proofs.ScanRuns.{ticks, window-kept, scan-finished}
-use Rattle.scan.proofs.Windows.{window-length}
+use Rattle.windows.proofs.Windows.{window-length}
 
 -- ---- the output
 

@@ -209,38 +209,38 @@ fn read_operations(words: &[u8], list: &mut [u8]) -> Filled
 // ---- writing
 
 fn put_refused(out: &mut [u8], waiting: usize, fault: Fault) -> usize {
-    let waiting = text::put(out, waiting, b"refused ");
-    let waiting = text::put_decimal(out, waiting, numbers::number(fault) as u64);
-    text::put(out, waiting, b" ")
+    let waiting = output::put(out, waiting, b"refused ");
+    let waiting = output::put_decimal(out, waiting, numbers::number(fault) as u64);
+    output::put(out, waiting, b" ")
 }
 
 fn put_answer(out: &mut [u8], waiting: usize, answer: Answer) -> usize {
     match answer {
-        Answer::Ok => text::put(out, waiting, b"ok "),
+        Answer::Ok => output::put(out, waiting, b"ok "),
         Answer::Refused(fault) => put_refused(out, waiting, fault),
     }
 }
 
 fn put_truth(out: &mut [u8], waiting: usize, answer: TruthAnswer) -> usize {
     match answer {
-        TruthAnswer::Yes => text::put(out, waiting, b"yes "),
-        TruthAnswer::No => text::put(out, waiting, b"no "),
+        TruthAnswer::Yes => output::put(out, waiting, b"yes "),
+        TruthAnswer::No => output::put(out, waiting, b"no "),
         TruthAnswer::Refused(fault) => put_refused(out, waiting, fault),
     }
 }
 
 fn put_health(out: &mut [u8], waiting: usize, health: Health) -> usize {
     match health {
-        Health::Clean => text::put(out, waiting, b"clean\n"),
-        Health::Debris => text::put(out, waiting, b"debris\n"),
-        Health::Pending => text::put(out, waiting, b"pending\n"),
+        Health::Clean => output::put(out, waiting, b"clean\n"),
+        Health::Debris => output::put(out, waiting, b"debris\n"),
+        Health::Pending => output::put(out, waiting, b"pending\n"),
     }
 }
 
 // How the answer of a mounted store ends: the item calls, and the health.
 fn close_line(out: &mut [u8], waiting: usize, calls: u64, state: State) -> Said {
-    let waiting = text::put_decimal(out, waiting, calls);
-    let waiting = text::put(out, waiting, b" ");
+    let waiting = output::put_decimal(out, waiting, calls);
+    let waiting = output::put(out, waiting, b" ");
     let health = state.health;
     let waiting = put_health(out, waiting, health);
     Said {
@@ -251,7 +251,7 @@ fn close_line(out: &mut [u8], waiting: usize, calls: u64, state: State) -> Said 
 }
 
 fn bad_line(out: &mut [u8], said: Said) -> Said {
-    let waiting = text::put(out, said.waiting, b"bad line\n");
+    let waiting = output::put(out, said.waiting, b"bad line\n");
     let mut next = said;
     next.waiting = waiting;
     next
@@ -288,7 +288,7 @@ fn put_line(
     said: Said,
 ) -> Said {
     let reply = store::put(region, script, said.state, key, value);
-    let waiting = text::put(out, said.waiting, b"put ");
+    let waiting = output::put(out, said.waiting, b"put ");
     let answer = reply.answer;
     let waiting = put_answer(out, waiting, answer);
     close_line(out, waiting, reply.calls, reply.state)
@@ -297,11 +297,11 @@ fn put_line(
 fn put_got(out: &mut [u8], waiting: usize, answer: GetAnswer, value: &[u8]) -> usize {
     match answer {
         GetAnswer::Found(len) => {
-            let waiting = text::put(out, waiting, b"found ");
-            let waiting = text::put(out, waiting, front(value, len));
-            text::put(out, waiting, b" ")
+            let waiting = output::put(out, waiting, b"found ");
+            let waiting = output::put(out, waiting, front(value, len));
+            output::put(out, waiting, b" ")
         }
-        GetAnswer::Absent => text::put(out, waiting, b"absent "),
+        GetAnswer::Absent => output::put(out, waiting, b"absent "),
         GetAnswer::Refused(fault) => put_refused(out, waiting, fault),
     }
 }
@@ -315,7 +315,7 @@ fn get_line(
     said: Said,
 ) -> Said {
     let reply = store::get(region, script, said.state, key, work);
-    let waiting = text::put(out, said.waiting, b"get ");
+    let waiting = output::put(out, said.waiting, b"get ");
     let answer = reply.answer;
     let waiting = put_got(out, waiting, answer, work);
     close_line(out, waiting, reply.calls, reply.state)
@@ -323,7 +323,7 @@ fn get_line(
 
 fn has_line(region: &mut [u8], script: &[u8], out: &mut [u8], key: &[u8], said: Said) -> Said {
     let reply = store::contains(region, script, said.state, key);
-    let waiting = text::put(out, said.waiting, b"has ");
+    let waiting = output::put(out, said.waiting, b"has ");
     let answer = reply.answer;
     let waiting = put_truth(out, waiting, answer);
     close_line(out, waiting, reply.calls, reply.state)
@@ -331,7 +331,7 @@ fn has_line(region: &mut [u8], script: &[u8], out: &mut [u8], key: &[u8], said: 
 
 fn del_line(region: &mut [u8], script: &[u8], out: &mut [u8], key: &[u8], said: Said) -> Said {
     let reply = store::delete(region, script, said.state, key);
-    let waiting = text::put(out, said.waiting, b"del ");
+    let waiting = output::put(out, said.waiting, b"del ");
     let answer = reply.answer;
     let waiting = put_truth(out, waiting, answer);
     close_line(out, waiting, reply.calls, reply.state)
@@ -349,7 +349,7 @@ fn batch_line(
         return bad_line(out, said);
     };
     let reply = batch::apply_batch(region, script, said.state, &work[..count]);
-    let waiting = text::put(out, said.waiting, b"batch ");
+    let waiting = output::put(out, said.waiting, b"batch ");
     let answer = reply.answer;
     let waiting = put_answer(out, waiting, answer);
     close_line(out, waiting, reply.calls, reply.state)
@@ -367,15 +367,15 @@ fn put_end(out: &mut [u8], waiting: usize, end: ScanEnd, count: usize) -> usize 
 }
 
 fn put_count(out: &mut [u8], waiting: usize, name: &[u8], count: usize) -> usize {
-    let waiting = text::put(out, waiting, name);
-    let waiting = text::put_decimal(out, waiting, count as u64);
-    text::put(out, waiting, b" ")
+    let waiting = output::put(out, waiting, name);
+    let waiting = output::put_decimal(out, waiting, count as u64);
+    output::put(out, waiting, b" ")
 }
 
 fn put_item(out: &mut [u8], waiting: usize, record: &[u8]) -> usize {
-    let waiting = text::put(out, waiting, b"item ");
-    let waiting = text::put_hex(out, waiting, record);
-    text::put(out, waiting, b"\n")
+    let waiting = output::put(out, waiting, b"item ");
+    let waiting = output::put_hex(out, waiting, record);
+    output::put(out, waiting, b"\n")
 }
 
 // A line for each record.
@@ -402,7 +402,7 @@ fn scan_line(
 ) -> Said {
     let reply = listing::scan_prefix(region, script, said.state, prefix, most, work);
     let scanned = reply.answer;
-    let waiting = text::put(out, said.waiting, b"scan ");
+    let waiting = output::put(out, said.waiting, b"scan ");
     let end = scanned.end;
     let waiting = put_end(out, waiting, end, scanned.count);
     let mut closed = close_line(out, waiting, reply.calls, reply.state);
@@ -542,15 +542,15 @@ fn mount(region: &mut [u8], script: &[u8], out: &mut [u8], said: Said) -> Said {
     erase(region);
     let state = said.state;
     let reply = store::mount(region, script, 0, state.at);
-    let waiting = text::put(out, said.waiting, b"mount ");
+    let waiting = output::put(out, said.waiting, b"mount ");
     let answer = reply.answer;
     let waiting = put_answer(out, waiting, answer);
     let Answer::Refused(_) = answer else {
         return close_line(out, waiting, reply.calls, reply.state);
     };
     // No store is mounted, and so there is no health.
-    let waiting = text::put_decimal(out, waiting, reply.calls);
-    let waiting = text::put(out, waiting, b" -\n");
+    let waiting = output::put_decimal(out, waiting, reply.calls);
+    let waiting = output::put(out, waiting, b" -\n");
     let state = reply.state;
     Said {
         mounted: false,
@@ -783,5 +783,5 @@ fn main() {
         &mut line,
         &mut out,
     );
-    text::flush(&out, waiting);
+    output::flush(&out, waiting);
 }

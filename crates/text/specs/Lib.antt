@@ -1,4 +1,3 @@
 pub mod Words
 pub mod Numerals
 pub mod Lines
-pub mod Waiting

@@ -1,5 +1,5 @@
 use mathlib.Core.Path.{subst}
-use Rattle.codec.specs.Forms.{Short}
+use Rattle.marks.specs.Forms.{Short}
 use borrow.Author.Needs.{needs}
 use Rattle.recovery.proofs.Recovering.{unread-failed, unread-on, count-refused, count-on}
 use Prim.Native.Nat.{_-_}

@@ -4,8 +4,9 @@ use native.Mathlib.Omega.{arith}
 use mathlib.Core.Path.{ap, refl, _∙_}
 use lib.ListN.{length}
 use Rattle.definition.specs.Scan.{rising}
-use Rattle.scan.specs.Forms.{unmetAs, lastKey}
-use Rattle.scan.proofs.Windows.{sane-empty, empty-holds}
+use Rattle.windows.specs.Forms.{lastKey}
+use Rattle.scan.specs.Forms.{unmetAs}
+use Rattle.windows.proofs.Windows.{sane-empty, empty-holds}
 use Rattle.scan.proofs.Passing.{met-held, open-failed, opened, Passing, passing-start, passing-failed, passing-over, passing-met, passing-overlong, passing-on}
 use Rattle.scan.proofs.pass.Statement.{statement}
 use Rattle.scan.proofs.pass.Tie as tie

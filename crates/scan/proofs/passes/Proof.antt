@@ -7,9 +7,9 @@ use lib.ListN.{length}
 use Rattle.definition.specs.Region.{items}
 use Rattle.definition.specs.Scan.{rising}
 use Rattle.definition.specs.declared.ScanEnd.the-variants.{Finished}
-use Rattle.scan.specs.Forms.{lastKey, windowItems}
+use Rattle.windows.specs.Forms.{lastKey, windowItems}
 use Rattle.definition.proofs.Windows.{rising-strict, sorted, above}
-use Rattle.scan.proofs.Windows.{record-size, window-length, window-held, window-at}
+use Rattle.windows.proofs.Windows.{record-size, window-length, window-held, window-at}
 use Rattle.scan.proofs.Writing.{Writing, writing-on, Going, going-start, going-failed, going-stalled, going-writes, going-full, going-stops, going-finished, going-less, going-on}
 use Rattle.scan.proofs.passes.Statement.{statement}
 use Rattle.scan.proofs.passes.Tie as tie

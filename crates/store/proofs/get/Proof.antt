@@ -5,7 +5,7 @@ use Rattle.definition.specs.Codec.{laid}
 use mathlib.Core.Path.{sym, ap, _∙_}
 use borrow.Author.Tests.{not-true, not-false}
 use Rattle.gate.proofs.Saying.{public-bad, public-ready, public-unready, says-as, says-ret}
-use Rattle.store.proofs.Finding.{get-outcome}
+use Rattle.finding.proofs.Finding.{get-outcome}
 use Rattle.definition.specs.declared.GetAnswer.the-variants.{Refused}
 use Rattle.definition.proofs.Choices.{pick-yes, pick-no}
 use borrow.Author.Needs.{needs}

@@ -1,0 +1,68 @@
+// The bookkeeping keys and the marker: document 01, "Codecs", and of "Recovery and health" the test of a marker's count. Every function takes any
+// input and equals its definition in `definition/specs/Codec` and `Recovery`; `codec` passes the codecs on.
+use definition::Marker;
+ghost use mathlib.Core.Path.{_≡_};
+ghost use Rattle.definition.specs.Codec;
+ghost use Rattle.definition.specs.Codec.{journalKey, marker, markerKey};
+ghost use Rattle.definition.specs.Recovery.{tooMany};
+ghost use Rattle.marks.specs.Forms.{MarkerReads};
+
+// Whether a key is a bookkeeping key.
+pub fn reserved(key: &[u8]) -> bool
+    ensures { λ r. ⌜ r ≡ Codec.reserved (now (key .entry)) ⌝ }
+{
+    if key.len() == 0 {
+        return false;
+    }
+    key[0] == 0
+}
+
+pub fn marker_key() -> [u8; 2]
+    ensures { λ r. ⌜ r ≡ markerKey ⌝ }
+{
+    [0, 0x63]
+}
+
+pub fn journal_key(index: u16) -> [u8; 4]
+    ensures { λ r. ⌜ r ≡ journalKey index ⌝ }
+{
+    [0, 0x6a, (index / 256) as u8, (index % 256) as u8]
+}
+
+// A marker: the count and its complement, so that a torn one does not agree with itself.
+pub fn encode_marker(count: u16) -> [u8; 4]
+    ensures { λ r. ⌜ r ≡ marker count ⌝ }
+{
+    let complement = 65535 - count;
+    [
+        (count / 256) as u8,
+        (count % 256) as u8,
+        (complement / 256) as u8,
+        (complement % 256) as u8,
+    ]
+}
+
+// The count that a marker's bytes say, if they are a marker.
+pub fn decode_marker(bytes: &[u8]) -> Marker
+    ensures { λ r. ⌜ MarkerReads (now (bytes .entry)) r ⌝ }
+{
+    if bytes.len() != 4 {
+        return Marker::Unread;
+    }
+    let count = slices::be16_at(bytes, 0);
+    let check = slices::be16_at(bytes, 2);
+    if check != 65535 - count {
+        return Marker::Unread;
+    }
+    Marker::Count(count)
+}
+
+// Whether a marker's count cannot be a batch's: the erased pattern, or more entries than the region could hold.
+pub fn too_many(len: usize, count: usize) -> bool
+    ensures { λ r. ⌜ r ≡ tooMany len count ⌝ }
+{
+    if count == 65535 {
+        return true;
+    }
+    len / 15 < count
+}
