@@ -2,4 +2,3 @@ pub mod Lent
 pub mod OneSlice
 pub mod Params
 pub mod Replies
-pub mod Stands
