@@ -11,6 +11,7 @@ pub mod Examples
 pub mod Determined
 pub mod Otherwise
 pub mod Session
+pub mod Structs
 -- What the promise rests on, over any map of items: it stands here so that an edit of the definition which breaks it is refused here.
 pub mod Ensures
 pub mod MapLaws

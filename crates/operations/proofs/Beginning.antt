@@ -2,29 +2,25 @@
 use mathlib.Core.Path.{_≡_, refl, sym, ap, _∙_, subst}
 use mathlib.Core.Bool.{Bool, true, false}
 use mathlib.Core.List.{List, [], _∷_}
-use Prim.Native.Nat.{ℕ, _<_, _≤_}
+use Prim.Native.Nat.{ℕ, _<_}
 use native.Mathlib.Omega.{arith}
 use lib.ListN.{length}
 use Rattle.definition.specs.Tools.{Bytes, pick, opt}
-use Rattle.definition.specs.Codec.{laid}
 use Rattle.definition.specs.Region.{good}
 use Rattle.definition.specs.Program.{exec, world, flat}
 use Rattle.definition.specs.Calls.{say, batch, batchOf}
 use Rattle.definition.specs.OperationList.{areOps, opsNamed, opsOver}
-use Rattle.definition.specs.Public.{outcome, begin, outcomeOf, public, applyOps}
-use Rattle.definition.proofs.Choices.{pick-yes, pick-no, bool}
+use Rattle.definition.specs.Public.{begin}
+use Rattle.definition.proofs.Choices.{pick-yes, pick-no}
 use Rattle.definition.specs.declared.Step.{Step}
 use Rattle.definition.specs.declared.State.{State}
 use Rattle.definition.specs.declared.BatchOp.{BatchOp}
 use Rattle.definition.specs.declared.Fault.the-variants.{Corrupted}
 use Rattle.definition.specs.declared.Health.{Health}
 use Rattle.definition.specs.declared.Answer.the-variants.{Ok, Refused}
-use Rattle.definition.specs.declared.Reply.{Reply}
-use Rattle.gate.specs.Forms.{replyOf}
-use Rattle.operations.specs.declared.Pass.{Pass}
-use Rattle.operations.specs.declared.Pass.the-variants.{Shape, Tests, Journal, Land, Over}
+use Rattle.operations.specs.declared.Pass.the-variants.{Shape}
 use Rattle.operations.specs.declared.Work.{Work}
-use Rattle.operations.specs.Passes.{Run, whole, Stands, InPass, Ending, Begun, turnOf, overOf}
+use Rattle.operations.specs.Passes.{whole, Begun, turnOf, overOf}
 use Rattle.operations.proofs.Coming.{comes-as, comes-ret, stands-over}
 
 none-at-all : (pool : Bytes) (ops : List BatchOp) (h : Health) → length ops ≡ 0 → batchOf flat (opsOver pool ops) h ≡ say Ok h

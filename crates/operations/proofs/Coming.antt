@@ -2,15 +2,14 @@
 use mathlib.Core.Path.{_≡_, refl, sym, ap, _∙_, subst}
 use mathlib.Core.Bool.{Bool, true, false, not}
 use mathlib.Core.List.{List, [], _∷_}
-use Prim.Native.Nat.{ℕ, suc, _<_, _≤_, _*_, zero-le}
+use Prim.Native.Nat.{ℕ, suc, _<_, _*_, zero-le}
 use native.Mathlib.Omega.{arith}
 use lib.ListN.{length}
 use Rattle.definition.specs.Tools.{Bytes}
 use Rattle.definition.specs.Codec.{Op, markerKey, marker}
 use Rattle.definition.specs.Region.{item, good}
-use Rattle.definition.specs.Program.{Prog, ret, err, onP, _▷_, World, world, Result, ok, bad, on, exec, flat, store, remove}
-use Rattle.definition.specs.Recovery.{recover}
-use Rattle.definition.specs.Calls.{Said, said, say, isClean, gate, journal, apply, finish, readBack, applyAll, commit, journalAll}
+use Rattle.definition.specs.Program.{Prog, err, onP, _▷_, world, ok, bad, on, exec, flat, store, remove}
+use Rattle.definition.specs.Calls.{Said, said, say, isClean, gate, journal, finish, readBack, applyAll, commit, journalAll}
 use Rattle.definition.specs.OperationList.{opsNamed}
 use Rattle.definition.proofs.Running.{exec-on, exec-ok, exec-bad}
 use Rattle.definition.specs.declared.Step.{Step}
@@ -26,7 +25,7 @@ use Rattle.items.specs.declared.Failure.{Failure}
 use Rattle.items.specs.declared.ItemAnswer.{ItemAnswer}
 use Rattle.items.specs.declared.ItemAnswer.the-variants.{Done, Failed}
 use Rattle.items.specs.Forms.{Runs, Ran, failureOf}
-use Rattle.items.proofs.Along.{ran-done, ran-failed, then-failed}
+use Rattle.items.proofs.Along.{ran-done, then-failed}
 use Rattle.gate.specs.declared.Converged.{Converged}
 use Rattle.gate.specs.declared.Converged.the-variants as G
 use Rattle.gate.specs.Forms.{ConvergedBy, Gate, unreadyOf, replyOf, Says}
@@ -35,7 +34,7 @@ use Rattle.journal.proofs.Committing.{run-failed}
 use Rattle.batch.proofs.Batching.{commit-failed}
 use Rattle.operations.specs.declared.Pass.the-variants.{Journal, Land}
 use Rattle.operations.specs.declared.Work.{Work}
-use Rattle.operations.specs.Passes.{Run, Comes, Passed, Stands, Behind, turnOf, overOf, repliedOf, guarded, closed, turns}
+use Rattle.operations.specs.Passes.{Run, Comes, Stands, Behind, turnOf, overOf, repliedOf, guarded, closed}
 
 module _ {r : Run} {s script : Bytes} {t : Step} where
   pub comes-as : {p q : Prog Bytes (Said Answer)} → p ≡ q → Comes r p s script t → Comes r q s script t
@@ -58,7 +57,8 @@ module _ {r : Run} {s script : Bytes} {t : Step} where
     comes-else c x = record { fine = x .fine; is = sym (exec-bad p (world s script t) k h (x .is)) ∙ c .is }
 
   -- the first of a row of item calls
-  module _ {A B : Type 0} {p : Prog Bytes A} (q : A → Prog Bytes B) {b : Bytes} {t1 : Step} (k : B → Prog Bytes (Said Answer)) (h : Fault → Prog Bytes (Said Answer))
+  module _ {A B : Type 0} {p : Prog Bytes A} (q : A → Prog Bytes B) {b : Bytes} {t1 : Step} (k : B → Prog Bytes (Said Answer)) (h : Fault
+      → Prog Bytes (Said Answer))
       (c : Comes r (onP (p ▷ q) k h) s script t) where
     pub comes-next : {a : A} → Runs p s script t b (ok a (world b script t1)) → Comes r (onP (q a) k h) b script t1
     comes-next {a} x = record {
@@ -99,18 +99,21 @@ module _ {r : Run} {ops : List BatchOp} {pool script b : Bytes} {count : ℕ} wh
 
 module _ {p : List Op → Prog Bytes (Said Answer)} {most count : ℕ} {s script : Bytes} {t : Step} {b : Bytes} where
   -- a reply ends it
-  pub behind-replied : {u : Reply} {w : Work} → ((ops : List Op) → count ≡ length ops → Says (p ops) s script t b (u .answer) (u .state) (u .calls) []) → w ≡ repliedOf count u
+  pub behind-replied : {u : Reply} {w : Work} → ((ops : List Op) → count ≡ length ops
+      → Says (p ops) s script t b (u .answer) (u .state) (u .calls) []) → w ≡ repliedOf count u
       → Behind p most count s script t b w
   behind-replied y e = subst (λ (w : Work). Behind p most count s script t b w) (sym e)
       (record { keeps = λ r ops pool n x c. stands-over n (comes-says c (y (opsNamed pool ops) (n ∙ sym (length-named pool ops)))); fewer = zero-le })
 
 -- ---- behind the tests: the recovery
 
-module _ {h : Health} {s script b : Bytes} {t : Step} {needed : Bool} {v : Converged} (ed : needed ≡ not (isClean h)) (x : Gate needed h s script t b v) where
+module _ {h : Health} {s script b : Bytes} {t : Step} {needed : Bool} {v : Converged} (ed : needed ≡ not (isClean h))
+    (x : Gate needed h s script t b v) where
   reached : Gate (not (isClean h)) h s script t b v
   reached = subst (λ (c : Bool). Gate c h s script t b v) ed x
 
-  pub recover-failed : {count : ℕ} {f : Fault} {t1 : Step} {w : Failure} {u : Reply} {w1 : Work} → v ≡ G.Failed f t1 → w ≡ unreadyOf v → u ≡ replyOf (Refused (w .fault)) h (w .step)
+  pub recover-failed : {count : ℕ} {f : Fault} {t1 : Step} {w : Failure} {u : Reply} {w1 : Work} → v ≡ G.Failed f t1 → w ≡ unreadyOf v
+      → u ≡ replyOf (Refused (w .fault)) h (w .step)
       → w1 ≡ repliedOf count u → Behind (guarded h) (2 * count) count s script t b w1
   recover-failed e ew eu e1 = behind-replied (λ ops n. as-reply eu (says-not-ready Refused (λ h1. journalAll flat ops) reached e ew)) e1
 
@@ -123,7 +126,8 @@ module _ {h : Health} {s script b : Bytes} {t : Step} {needed : Bool} {v : Conve
       is = record {
         less = omega (arith, n, l);
         passed = y;
-        comes = ready (λ h1. journalAll flat (opsNamed pool ops)) h s script t b (not (isClean h)) (x .fine) (subst (ConvergedBy (not (isClean h)) h s script t b) e (reached .is)) c;
+        comes = ready (λ h1. journalAll flat (opsNamed pool ops)) h s script t b (not (isClean h)) (x .fine) (subst (ConvergedBy (not
+            (isClean h)) h s script t b) e (reached .is)) c;
       };
     };
     fewer = omega arith;
@@ -137,7 +141,8 @@ module _ {count : ℕ} {s script b : Bytes} {t : Step} {q : ItemAnswer} (a : Ran
       → Behind (commit flat) count count s script t b2 w1
   marker-failed e ew y e1 = behind-replied (λ ops n. commit-failed ops n a e ew y) e1
 
-  pub marker-done : {h : Health} {t1 : Step} {w1 : Work} → 0 < count → q ≡ Done t1 → w1 ≡ turnOf Land 0 count h t1 → Behind (commit flat) count count s script t b w1
+  pub marker-done : {h : Health} {t1 : Step} {w1 : Work} → 0 < count → q ≡ Done t1 → w1 ≡ turnOf Land 0 count h t1
+      → Behind (commit flat) count count s script t b w1
   unfolding commit applyAll
   marker-done {h} {t1} l e e1 = subst (λ (w : Work). Behind (commit flat) count count s script t b w) (sym e1) (record {
     keeps = λ r ops pool n y c. record {
@@ -161,7 +166,8 @@ finish-done q {s = s} {script = script} {b = b} {u = u} ew y e1 =
     behind-replied (λ ops n. subst (λ (w : Failure). Says (finish flat) s script (w .step) b (u .answer) (u .state) (u .calls) []) ew y) e1
 
 module _ {count : ℕ} {s script b : Bytes} {t : Step} {q : ItemAnswer} (a : Ran (remove flat markerKey) s script t b q) where
-  pub close-failed : {f : Fault} {t1 : Step} {b2 : Bytes} {w1 : Work} → q ≡ Failed f t1 → Behind (λ ops. finish flat) 0 count b script (failureOf q .step) b2 w1
+  pub close-failed : {f : Fault} {t1 : Step} {b2 : Bytes} {w1 : Work} → q ≡ Failed f t1
+      → Behind (λ ops. finish flat) 0 count b script (failureOf q .step) b2 w1
       → Behind closed 0 count s script t b2 w1
   close-failed e y = record {
     keeps = λ r ops pool n x c. y .keeps r ops pool n x (comes-else (λ x. say Ok Clean) (λ e. finish flat) c (run-failed a e refl));

@@ -1,12 +1,12 @@
 -- What the entry's walk knows: that an operation may take its turn, and what the last work says of the call.
 use mathlib.Core.Path.{_≡_, refl, sym, ap, _∙_, subst}
-use mathlib.Core.Bool.{Bool, true, false}
+use mathlib.Core.Bool.{true}
 use mathlib.Core.List.{List, [], _∷_}
 use mathlib.Core.Option.{none}
 use Prim.Native.Nat.{ℕ, zero, suc, _<_, _≤_}
 use native.Mathlib.Omega.{arith}
-use lib.ListN.{length, getD}
-use Rattle.definition.specs.Tools.{Bytes, pick}
+use lib.ListN.{length}
+use Rattle.definition.specs.Tools.{Bytes}
 use Rattle.definition.specs.Codec.{opFault, laid}
 use Rattle.definition.specs.Region.{good}
 use Rattle.definition.specs.Calls.{opsFault}
@@ -23,7 +23,7 @@ use Rattle.batch.proofs.Walking.{ops-fine}
 use Rattle.operations.specs.declared.Pass.{Pass}
 use Rattle.operations.specs.declared.Pass.the-variants.{Shape, Tests, Journal, Land, Over}
 use Rattle.operations.specs.declared.Work.{Work}
-use Rattle.operations.specs.Passes.{Run, whole, Passed, Stands, InPass, Ending, Fit, Turn, none-left, opAt}
+use Rattle.operations.specs.Passes.{Run, whole, Passed, Stands, InPass, Ending, Fit, Turn, opAt}
 
 -- ---- one of the operations
 
@@ -33,7 +33,8 @@ is-op-at pool [] i e l = absurd (omega arith)
 is-op-at pool (o ∷ ops) zero e l = both _ _ e .0
 is-op-at pool (o ∷ ops) (suc i) e l = is-op-at pool ops i (both _ _ e .1) (omega arith)
 
-fine-at : (pool : Bytes) (ops : List BatchOp) (i : ℕ) → opsFault (opsNamed pool ops) ≡ none → i < length ops → opFault (opNamed pool (opAt ops i)) ≡ none
+fine-at : (pool : Bytes) (ops : List BatchOp) (i : ℕ) → opsFault (opsNamed pool ops) ≡ none → i < length ops
+    → opFault (opNamed pool (opAt ops i)) ≡ none
 unfolding opsNamed
 fine-at pool [] i e l = absurd (omega arith)
 fine-at pool (o ∷ ops) zero e l = ops-fine (opNamed pool o) (opsNamed pool ops) e .0
@@ -70,7 +71,8 @@ module _ {r : Run} {ops : List BatchOp} {pool script b : Bytes} {w : Work} (h : 
 
 -- ---- the call
 
-whole-is : (s script : Bytes) (st : State) (ops : List BatchOp) (pool : Bytes) → outcomeOf Refused (st .health) [] (whole s script st ops pool) ≡ applyOps s script st ops pool
+whole-is : (s script : Bytes) (st : State) (ops : List BatchOp) (pool : Bytes)
+    → outcomeOf Refused (st .health) [] (whole s script st ops pool) ≡ applyOps s script st ops pool
 unfolding applyOps public whole outcomeOf laid
 whole-is s script st ops pool =
     bool (good s) (λ t. ap (outcomeOf Refused (st .health) []) (pick-yes _ _ t) ∙ sym (pick-yes _ _ t))

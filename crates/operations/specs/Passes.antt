@@ -1,9 +1,9 @@
 -- Where a batch of operation structs stands between two turns, and what a turn keeps: the run that is left equals the whole run.
 use mathlib.Core.Path.{_≡_}
-use mathlib.Core.Bool.{Bool, true, not}
+use mathlib.Core.Bool.{true, not}
 use mathlib.Core.List.{List, []}
 use mathlib.Core.Option.{none}
-use Prim.Native.Nat.{ℕ, _+_, _-_, _*_, _<_, _≤_}
+use Prim.Native.Nat.{ℕ, _-_, _*_, _<_, _≤_}
 use lib.ListN.{length, getD, drop}
 use Rattle.definition.specs.Tools.{Bytes, pick, opt}
 use Rattle.definition.specs.Codec.{Op, batchLimit, markerKey, opFault}
@@ -15,7 +15,6 @@ use Rattle.definition.specs.Public.{begin}
 use Rattle.definition.specs.declared.Step.{Step}
 use Rattle.definition.specs.declared.State.{State}
 use Rattle.definition.specs.declared.BatchOp.{BatchOp}
-use Rattle.definition.specs.declared.Fault.{Fault}
 use Rattle.definition.specs.declared.Fault.the-variants.{Corrupted}
 use Rattle.definition.specs.declared.Health.{Health}
 use Rattle.definition.specs.declared.Health.the-variants.{Clean, Debris}
