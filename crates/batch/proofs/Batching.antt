@@ -89,12 +89,12 @@ module _ (ops : List Op) {s script b : Bytes} {t : Step} {r : ItemAnswer} where
 abbrev guarded : List Op → Health → Prog Bytes (Said Answer)
 guarded ops h = gate flat Refused (not (isClean h)) h (λ h1. journalAll flat ops)
 
-some-ops : (ops : List Op) (h : Health) → (length ops ≡ 0 → ⊥) → batch flat ops h ≡ opt (batchFault ops) (guarded ops h) (λ e. say (Refused e) h)
+pub some-ops : (ops : List Op) (h : Health) → (length ops ≡ 0 → ⊥) → batch flat ops h ≡ opt (batchFault ops) (guarded ops h) (λ e. say (Refused e) h)
 unfolding batch
 some-ops [] h z = absurd (z refl)
 some-ops (op ∷ ops) h z = refl
 
-no-ops : (ops : List Op) (h : Health) → length ops ≡ 0 → batch flat ops h ≡ say Ok h
+pub no-ops : (ops : List Op) (h : Health) → length ops ≡ 0 → batch flat ops h ≡ say Ok h
 unfolding batch
 no-ops [] h z = refl
 no-ops (op ∷ ops) h z = absurd (omega arith)

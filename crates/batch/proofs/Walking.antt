@@ -91,7 +91,7 @@ tested {l} w e =
     let h = few-of (opsIn l) e in
     record { walk = w; fine = h .1; few = omega (arith, h .0) }
 
-ops-fine : (op : Op) (ops : List Op) → opsFault (op ∷ ops) ≡ none → (opFault op ≡ none) × (opsFault ops ≡ none)
+pub ops-fine : (op : Op) (ops : List Op) → opsFault (op ∷ ops) ≡ none → (opFault op ≡ none) × (opsFault ops ≡ none)
 unfolding opsFault opt
 ops-fine op ops e = go (opFault op) refl e
   where

@@ -2,6 +2,7 @@ pub mod Computes
 pub mod Examples
 pub mod Session
 pub mod Against
+pub mod Structs
 pub mod Choices
 pub mod Running
 pub mod Codecs

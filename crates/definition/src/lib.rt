@@ -155,7 +155,8 @@ pub struct Scanned {
     pub length: usize,
 }
 
-// One operation of a batch, given as parts of a lent byte pool: kind 1 puts, kind 2 deletes.
+// One operation of a batch, given as parts of a lent byte pool: kind 1 puts, kind 2 deletes. Its layout is C's, for hosts that lend a list of them.
+#[repr(C)]
 pub struct BatchOp {
     pub kind: u8,
     pub key_at: usize,

@@ -38,7 +38,7 @@ use denote.Triple.Walked.{says, walkOf, ends-at}
 use denote.Exit.{yes}
 use Rattle.host.proofs.Lent.{Kind, SR, s-val, opened, lends, handed, answered, freed}
 use Rattle.host.proofs.Params.{Param, state, written, read, slots, kept, stays, all-go, spells, all-tell}
-use Rattle.host.proofs.Stands.{stands}
+use Rattle.walks.proofs.Stands.{stands}
 use Rattle.definition.specs.declared.State.{State as Kept}
 use Rattle.definition.proofs.State.Laws as S′
 

@@ -1,7 +1,7 @@
 -- The parameters of a function that is walked: of each, its type, what is had of it at exit, the law of that, and how its machine values are spelled.
 --     state        the lent record: still owned at exit
 --     written      a `&mut [u8]`: given up to the call
---     read         a `&[u8]`: nothing is had of it, for nothing is said of it
+--     readOf       a `&[E]`: nothing is had of it, for nothing is said of it; `read` is a `&[u8]`
 --     word         a number, likewise
 use mathlib.Core.Path.{refl}
 use mathlib.Core.List.{List, [], _∷_}
@@ -13,6 +13,7 @@ use prog.Wp.{Heap}
 use ghost.Atoms.{Atoms}
 use types.Kit.{Given}
 use contract.Lifetimes.{Lfts}
+use denote.RattleType.{RattleType}
 use denote.Laws.{Is, Ises, Tells, Spells, Tellss}
 use denote.Plain.{UInt, uint-vals, uint-tells}
 use denote.Builtin.{u8}
@@ -50,14 +51,17 @@ module _ {n : ℕ} where
     tells = λ κs. mut-slice-tells (named j) (meetAt n (j ∷ []) ok κs) u8;
   }
 
-  abbrev pub read : (j : ℕ) → AllWithin n (j ∷ []) → Param n
-  read j ok = record {
-    slot = shrSliceOf (j ∷ []) ok (plain (λ _. u8));
+  abbrev pub readOf : RattleType → (j : ℕ) → AllWithin n (j ∷ []) → Param n
+  readOf E j ok = record {
+    slot = shrSliceOf (j ∷ []) ok (plain (λ _. E));
     stay = stay-dropped _ yes;
-    goes = λ 𝓤 H A W. goes-dropped 𝓤 H A W n (shrSliceOf (j ∷ []) ok (plain (λ _. u8))) yes (λ κs x e. refl);
+    goes = λ 𝓤 H A W. goes-dropped 𝓤 H A W n (shrSliceOf (j ∷ []) ok (plain (λ _. E))) yes (λ κs x e. refl);
     vals = λ κs. slice-vals;
-    tells = λ κs. shr-slice-tells (named j) (meetAt n (j ∷ []) ok κs) u8;
+    tells = λ κs. shr-slice-tells (named j) (meetAt n (j ∷ []) ok κs) E;
   }
+
+  abbrev pub read : (j : ℕ) → AllWithin n (j ∷ []) → Param n
+  read = readOf u8
 
   abbrev pub word : Width → Param n
   word w = record {

@@ -1,6 +1,7 @@
 // The calls for a host that keeps its state record in one place: the record is lent, and each call leaves in it what its reply says. Every function
 // is its call by value, with the record copied in and the reply's written back; what the call answers, and what it does to the region and to the
 // output, is its definition's in `definition/specs/Public`.
+use definition::BatchOp;
 use definition::GetReply;
 use definition::Reply;
 use definition::ScanReply;
@@ -73,6 +74,22 @@ pub fn apply_batch(state: &mut State, region: &mut [u8], script: &[u8], list: &[
 {
     let before = *state;
     let reply = batch::apply_batch(region, script, before, list);
+    *state = reply.state;
+    reply
+}
+
+// The same with the operations as structs that name parts of one byte pool.
+pub fn apply_ops(
+    state: &mut State,
+    region: &mut [u8],
+    script: &[u8],
+    ops: &[BatchOp],
+    pool: &[u8],
+) -> Reply
+    ensures { λ r. ⌜ (outcome (r .answer) (r .state) (r .calls) (now (region .exit)) [] ≡ Public.applyOps (now (region .entry)) (now (script .entry)) (now (state .entry)) (now (ops .entry)) (now (pool .entry))) × (now (state .exit) ≡ r .state) ⌝ }
+{
+    let before = *state;
+    let reply = operations::apply_ops(region, script, before, ops, pool);
     *state = reply.state;
     reply
 }

@@ -3,12 +3,12 @@ use mathlib.Core.Path.{_≡_, refl, sym, ap, ap₂, _∙_}
 use mathlib.Core.Bool.{Bool, true, false}
 use Prim.Native.Nat.{ℕ, _+_, _-_, _≤_, _<_}
 use native.Mathlib.Omega.{arith}
-use lib.ListN.{length, take, drop, length-take}
+use lib.ListN.{length, take, drop}
 use lib.Dec.{eqb, leb}
 use borrow.Author.Tests.{le-leb, lt-leb, leb-true, leb-false, eqb-true}
-use Rattle.definition.specs.Tools.{Bytes, pick}
-use Rattle.definition.specs.Codec.{Op, Put, Delete, opKey, opValue, opFault}
-use Rattle.definition.specs.OperationList.{putKind, deleteKind, partAt, inside, isKind, isOp, opNamed}
+use Rattle.definition.specs.Tools.{Bytes}
+use Rattle.definition.specs.Codec.{Put, Delete, opKey, opValue, opFault}
+use Rattle.definition.specs.OperationList.{putKind, partAt, inside, isKind, isOp, opNamed}
 use Rattle.definition.proofs.Choices.{picked, passed, pick-yes, pick-no, both, bool}
 use Rattle.definition.specs.declared.BatchOp.{BatchOp}
 use Rattle.codec.specs.declared.OpKind.{OpKind}

@@ -1,5 +1,4 @@
 -- The kind of an operation struct, as the codecs name it.
-use Prim.Native.Nat.{ℕ}
 use lib.Dec.{eqb}
 use Rattle.definition.specs.Tools.{pick}
 use Rattle.definition.specs.OperationList.{putKind}

@@ -35,7 +35,7 @@ use Rattle.definition.specs.Public as Public
 use Rattle.host.proofs.Lent.{SR, s-val, opened, lends, handed, answered, freed}
 use Rattle.host.proofs.Replies.{get-reply}
 use Rattle.host.proofs.Params.{Param, state, written, read, slots, stays, all-go, spells, all-tell}
-use Rattle.host.proofs.Stands.{stands}
+use Rattle.walks.proofs.Stands.{stands}
 use Rattle.store.proofs.get as callee
 use Rattle.store.proofs.get.Symbol as callee-def
 use Rattle.store.proofs.get.Symbol.{name as #callee}

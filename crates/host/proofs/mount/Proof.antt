@@ -37,7 +37,7 @@ use Rattle.definition.specs.Public as Public
 use Rattle.host.proofs.Lent.{SR, opened, lends, placed, answered, freed}
 use Rattle.host.proofs.Replies.{reply}
 use Rattle.host.proofs.Params.{Param, state, written, read, word, slots, stays, all-go, spells, all-tell}
-use Rattle.host.proofs.Stands.{stands}
+use Rattle.walks.proofs.Stands.{stands}
 use Rattle.store.proofs.mount as callee
 use Rattle.store.proofs.mount.Symbol as callee-def
 use Rattle.store.proofs.mount.Symbol.{name as #callee}

@@ -35,7 +35,7 @@ use Rattle.definition.specs.Public as Public
 use Rattle.host.proofs.Lent.{SR, s-val, opened, lends, handed, answered, freed}
 use Rattle.host.proofs.Replies.{scan-reply}
 use Rattle.host.proofs.Params.{Param, state, written, read, word, slots, stays, all-go, spells, all-tell}
-use Rattle.host.proofs.Stands.{stands}
+use Rattle.walks.proofs.Stands.{stands}
 use Rattle.listing.proofs.scan_prefix as callee
 use Rattle.listing.proofs.scan_prefix.Symbol as callee-def
 use Rattle.listing.proofs.scan_prefix.Symbol.{name as #callee}
