@@ -9,7 +9,7 @@ use Rattle.definition.specs.Tools.{Bytes, pick, opt}
 use Rattle.definition.specs.Region.{good}
 use Rattle.definition.specs.Program.{exec, world, flat}
 use Rattle.definition.specs.Calls.{say, batch, batchOf}
-use Rattle.definition.specs.OperationList.{areOps, opsNamed, opsOver}
+use Rattle.definition.specs.OperationList.{opsOver}
 use Rattle.definition.specs.Public.{begin}
 use Rattle.definition.proofs.Choices.{pick-yes, pick-no}
 use Rattle.definition.specs.declared.Step.{Step}
@@ -24,7 +24,7 @@ use Rattle.operations.specs.Passes.{whole, Begun, turnOf, overOf}
 use Rattle.operations.proofs.Coming.{comes-as, comes-ret, stands-over}
 
 none-at-all : (pool : Bytes) (ops : List BatchOp) (h : Health) → length ops ≡ 0 → batchOf flat (opsOver pool ops) h ≡ say Ok h
-unfolding batchOf opsOver areOps opsNamed batch pick opt
+unfolding batchOf opsOver batch opt
 none-at-all pool [] h e = refl
 none-at-all pool (o ∷ ops) h e = absurd (omega arith)
 

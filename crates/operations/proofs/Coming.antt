@@ -10,7 +10,7 @@ use Rattle.definition.specs.Codec.{Op, markerKey, marker}
 use Rattle.definition.specs.Region.{item, good}
 use Rattle.definition.specs.Program.{Prog, err, onP, _▷_, world, ok, bad, on, exec, flat, store, remove}
 use Rattle.definition.specs.Calls.{Said, said, say, isClean, gate, journal, finish, readBack, applyAll, commit, journalAll}
-use Rattle.definition.specs.OperationList.{opsNamed}
+use Rattle.pooled.specs.Parts.{opsNamed}
 use Rattle.definition.proofs.Running.{exec-on, exec-ok, exec-bad}
 use Rattle.definition.specs.declared.Step.{Step}
 use Rattle.definition.specs.declared.State.{State}

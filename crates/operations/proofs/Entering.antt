@@ -10,7 +10,7 @@ use Rattle.definition.specs.Tools.{Bytes}
 use Rattle.definition.specs.Codec.{opFault, laid}
 use Rattle.definition.specs.Region.{good}
 use Rattle.definition.specs.Calls.{opsFault}
-use Rattle.definition.specs.OperationList.{isOp, opNamed, areOps, opsNamed}
+use Rattle.pooled.specs.Parts.{isOp, opNamed, areOps, opsNamed}
 use Rattle.definition.specs.Public.{outcome, outcomeOf, public, applyOps}
 use Rattle.definition.proofs.Choices.{pick-yes, pick-no, both, bool}
 use Rattle.definition.specs.declared.State.{State}

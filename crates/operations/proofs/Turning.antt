@@ -14,7 +14,8 @@ use Rattle.definition.specs.Codec.{Op, Put, batchLimit, opFault}
 use Rattle.definition.specs.Program.{Prog, onP, _▷_, flat}
 use Rattle.definition.specs.Recovery.{land}
 use Rattle.definition.specs.Calls.{Said, say, opsFault, batchFault, journal, apply, finish, commit, batch, batchOf}
-use Rattle.definition.specs.OperationList.{partAt, isOp, opNamed, areOps, opsNamed, opsOver}
+use Rattle.definition.specs.OperationList.{opsOver}
+use Rattle.pooled.specs.Parts.{partAt, isOp, opNamed, areOps, opsNamed}
 use Rattle.definition.proofs.Choices.{pick-yes, pick-no, opt-none, opt-some}
 use Rattle.definition.specs.declared.Step.{Step}
 use Rattle.definition.specs.declared.BatchOp.{BatchOp}
@@ -39,7 +40,7 @@ use Rattle.gate.specs.Forms.{replyOf}
 use Rattle.journal.proofs.Committing.{run-failed}
 use Rattle.batch.proofs.Walking.{entered, journal-turn, apply-turn}
 use Rattle.batch.proofs.Batching.{some-ops}
-use Rattle.pooled.proofs.Naming.{fault-is}
+use Rattle.pooled.proofs.Naming.{fault-is, ops-over}
 use Rattle.operations.specs.declared.Pass.{Pass}
 use Rattle.operations.specs.declared.Pass.the-variants.{Shape, Tests, Journal, Land}
 use Rattle.operations.specs.declared.Work.{Work}
@@ -80,10 +81,10 @@ module _ (o : BatchOp) (pool : Bytes) (w : Work) where
 
     pub shape-refused : {w1 : Work} → q ≡ false → w1 ≡ overOf (w .count) (Refused F.BadList) (w .health) (w .step) → (script s : Bytes)
         → Turned o pool script s w s w1
-    unfolding batchOf opsOver
+    unfolding batchOf
     shape-refused f e1 script s = as-turned e1 (record {
       keeps = λ r ops e h. stands-over (h .count)
-          (comes-ret (comes-as (opt-none _ _ (pick-no _ _ (shaped e h ∙ pick-no _ _ f))) (in-pass ep h .comes)));
+          (comes-ret (comes-as (opt-none _ _ (ops-over pool ops ∙ pick-no _ _ (shaped e h ∙ pick-no _ _ f))) (in-pass ep h .comes)));
       fewer = left-turns ep (omega arith);
     })
 
@@ -110,9 +111,9 @@ module _ (o : BatchOp) (pool : Bytes) (w : Work) where
         batched : {r : Run} {ops : List BatchOp} {script s : Bytes} → opAt ops (w .next) ≡ o → (h : Stands r ops pool script s w)
             → Comes r (opt (batchFault (opsNamed pool ops)) (guarded (w .health) (opsNamed pool ops)) (λ e. say (Refused e) (w .health))) s script
             (w .step)
-        unfolding batchOf opsOver
+        unfolding batchOf
         batched {ops = ops} e h =
-            comes-as (opt-some _ _ (pick-yes _ _ (all-shaped e h))
+            comes-as (opt-some _ _ (ops-over pool ops ∙ pick-yes _ _ (all-shaped e h))
             ∙ some-ops (opsNamed pool ops) (w .health) (λ z. absurd (omega (arith, l, h .count, length-named pool ops, z)))) (in-pass ep h .comes)
 
         pub shape-many : {w1 : Work} → batchLimit < w .count

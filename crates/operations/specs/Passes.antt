@@ -10,7 +10,8 @@ use Rattle.definition.specs.Codec.{Op, batchLimit, markerKey, opFault}
 use Rattle.definition.specs.Region.{good}
 use Rattle.definition.specs.Program.{Prog, onP, World, world, Result, ok, exec, flat, remove}
 use Rattle.definition.specs.Calls.{Said, said, say, isClean, gate, opsFault, journal, apply, finish, commit, journalAll, batchOf}
-use Rattle.definition.specs.OperationList.{isOp, opNamed, areOps, opsNamed, opsOver}
+use Rattle.definition.specs.OperationList.{opsOver}
+use Rattle.pooled.specs.Parts.{isOp, opNamed, areOps, opsNamed}
 use Rattle.definition.specs.Public.{begin}
 use Rattle.definition.specs.declared.Step.{Step}
 use Rattle.definition.specs.declared.State.{State}

@@ -1,20 +1,23 @@
--- What the tests of an operation struct say, and the operation that it names by the parts that the code hands on.
+-- What the tests of an operation struct say, and the operation that it names by the parts that the code hands on; and that tests and parts together
+-- are the definition's list.
 use mathlib.Core.Path.{_≡_, refl, sym, ap, ap₂, _∙_}
 use mathlib.Core.Bool.{Bool, true, false}
+use mathlib.Core.List.{List, [], _∷_}
+use mathlib.Core.Option.{Option, none, some, Option·map}
 use Prim.Native.Nat.{ℕ, _+_, _-_, _≤_, _<_}
 use native.Mathlib.Omega.{arith}
 use lib.ListN.{length, take, drop}
 use lib.Dec.{eqb, leb}
 use borrow.Author.Tests.{le-leb, lt-leb, leb-true, leb-false, eqb-true}
-use Rattle.definition.specs.Tools.{Bytes}
-use Rattle.definition.specs.Codec.{Put, Delete, opKey, opValue, opFault}
-use Rattle.definition.specs.OperationList.{putKind, partAt, inside, isKind, isOp, opNamed}
+use Rattle.definition.specs.Tools.{Bytes, pick, opt}
+use Rattle.definition.specs.Codec.{Op, Put, Delete, opKey, opValue, opFault}
+use Rattle.definition.specs.OperationList.{putKind, deleteKind, partOf, opOver, opsOver}
 use Rattle.definition.proofs.Choices.{picked, passed, pick-yes, pick-no, both, bool}
 use Rattle.definition.specs.declared.BatchOp.{BatchOp}
 use Rattle.codec.specs.declared.OpKind.{OpKind}
 use Rattle.codec.specs.declared.OpKind.the-variants as K
 use Rattle.codec.specs.Forms.{opAs}
-use Rattle.pooled.specs.Parts.{kindOf}
+use Rattle.pooled.specs.Parts.{partAt, inside, isKind, isOp, areOps, kindOf, opNamed, opsNamed}
 
 -- ---- a part
 
@@ -92,3 +95,36 @@ module _ (pool : Bytes) (o : BatchOp) (h : isOp pool o ≡ true) {kp vp : Bytes}
       (λ t. ap opFault (pick-yes _ _ t) ∙ ap₂ (λ (a b : Bytes). opFault (Put a b)) (sym ek) (sym ev))
       (λ f. ap opFault (pick-no _ _ f)
       ∙ ap₂ (λ (a b : Bytes). opFault (Put a b)) (sym ek) (sym (ev ∙ ap (λ (n : ℕ). take n (drop (o .«value_at») pool)) (bare f))))
+
+-- ---- tested, then read: the definition's list
+
+-- the tests of the key's part, the value's part and the kind, one behind the other
+one-law : (a b c d e : Bool) (k v : Bytes)
+    → opt (pick a (some k) none) none (λ x. opt (pick b (some v) none) none
+    (λ y. pick c (some (Put x y)) (pick d (pick e (some (Delete x)) none) none)))
+    ≡ pick (pick a (pick b (pick c true (pick d e false)) false) false) (some (pick c (Put k v) (Delete k))) none
+unfolding pick opt
+one-law false b c d e k v = refl
+one-law true false c d e k v = refl
+one-law true true true d e k v = refl
+one-law true true false false e k v = refl
+one-law true true false true true k v = refl
+one-law true true false true false k v = refl
+
+all-law : (a b : Bool) (op : Op) (ops : List Op)
+    → opt (pick a (some op) none) none (λ x. Option·map (λ xs. x ∷ xs) (pick b (some ops) none)) ≡ pick (pick a b false) (some (op ∷ ops)) none
+unfolding pick opt
+all-law false b op ops = refl
+all-law true true op ops = refl
+all-law true false op ops = refl
+
+op-over : (pool : Bytes) (o : BatchOp) → opOver pool o ≡ pick (isOp pool o) (some (opNamed pool o)) none
+unfolding opOver partOf isOp inside isKind opNamed partAt
+op-over pool o = one-law _ _ _ _ _ _ _
+
+pub ops-over : (pool : Bytes) (os : List BatchOp) → opsOver pool os ≡ pick (areOps pool os) (some (opsNamed pool os)) none
+unfolding opsOver areOps opsNamed pick
+ops-over pool [] = refl
+ops-over pool (o ∷ os) =
+    ap₂ (λ (x : Option Op) (xs : Option (List Op)). opt x none (λ op. Option·map (λ ops. op ∷ ops) xs)) (op-over pool o) (ops-over pool os)
+    ∙ all-law (isOp pool o) (areOps pool os) (opNamed pool o) (opsNamed pool os)

@@ -4,8 +4,7 @@ use codec::OpKind;
 use definition::BatchOp;
 ghost use mathlib.Core.Path.{_≡_};
 ghost use mathlib.Core.Bool.{true};
-ghost use Rattle.definition.specs.OperationList.{partAt, inside, isKind, isOp};
-ghost use Rattle.pooled.specs.Parts.{kindOf};
+ghost use Rattle.pooled.specs.Parts.{partAt, inside, isKind, isOp, kindOf};
 
 const PUT_KIND: u8 = 1;
 

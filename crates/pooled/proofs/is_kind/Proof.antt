@@ -1,7 +1,7 @@
 use mathlib.Core.Path.{refl}
 use borrow.Author.Tests.{eq-eqb, ne-eqb}
 use Rattle.definition.proofs.Choices.{picked, passed}
-use Rattle.definition.specs.OperationList.{isKind}
+use Rattle.pooled.specs.Parts.{isKind}
 use Rattle.pooled.proofs.is_kind.Statement.{statement}
 use Rattle.pooled.proofs.is_kind.Tie as tie
 

@@ -1,5 +1,5 @@
 use Rattle.pooled.proofs.Naming.{value-fits}
-use Rattle.definition.specs.OperationList.{partAt}
+use Rattle.pooled.specs.Parts.{partAt}
 use Rattle.pooled.proofs.value_of.Statement.{statement}
 use Rattle.pooled.proofs.value_of.Tie as tie
 
