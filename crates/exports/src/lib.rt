@@ -1,6 +1,7 @@
 // The calls for a host in C or Rust: one exported function a call, over structs of plain numbers by value and lent slices. Only numbers cross; the
 // conversions are proved, and each function is its call of document 01 between them.
 use definition::Answer;
+use definition::BatchOp;
 use definition::Fault;
 use definition::GetAnswer;
 use definition::GetReply;
@@ -274,6 +275,20 @@ pub extern "C" fn takes_batch(
 {
     let state = state_in(state);
     reply_out(batch::apply_batch(region, script, state, list))
+}
+
+#[no_mangle]
+pub extern "C" fn takes_ops(
+    region: &mut [u8],
+    script: &[u8],
+    state: CState,
+    ops: &[BatchOp],
+    pool: &[u8],
+) -> CReply
+    ensures { λ r. ⌜ Replies r (now (region .exit)) (Public.applyOps (now (region .entry)) (now (script .entry)) (stateIn state) (now (ops .entry)) (now (pool .entry))) ⌝ }
+{
+    let state = state_in(state);
+    reply_out(operations::apply_ops(region, script, state, ops, pool))
 }
 
 #[no_mangle]
