@@ -2,7 +2,7 @@
 //! pointer and its length.
 
 use crate::subject::{On, Subject};
-use outcome::{Outcome, State};
+use outcome::{Op, Outcome, State};
 
 /// A function that takes region, script and state, and then some more.
 macro_rules! on_state {
@@ -21,6 +21,7 @@ on_state! {
     takes_put(*const u8, usize, *const u8, usize);
     takes_delete(*const u8, usize);
     takes_batch(*const u8, usize);
+    takes_ops(*const Op, usize, *const u8, usize);
     takes_scan(*const u8, usize, u64, *mut u8, usize);
 }
 
@@ -72,6 +73,13 @@ impl Subject for Archive {
 
     fn batch(&self, on: On, list: &[u8]) -> Outcome {
         call!(takes_batch(on.region, on.script, on.state, list.as_ptr(), list.len()))
+    }
+
+    fn ops(&self, on: On, ops: &[Op], pool: &[u8]) -> Outcome {
+        call!(takes_ops(
+            on.region, on.script, on.state,
+            ops.as_ptr(), ops.len(), pool.as_ptr(), pool.len()
+        ))
     }
 
     fn scan(&self, on: On, prefix: &[u8], most: u64, out: &mut [u8]) -> Outcome {

@@ -2,7 +2,7 @@
 
 use crate::subject::{On, Subject};
 use oracle::Session;
-use outcome::{Outcome, State};
+use outcome::{Op, Outcome, State};
 
 #[derive(Clone, Debug)]
 pub enum Call {
@@ -12,12 +12,13 @@ pub enum Call {
     Put { key: Vec<u8>, value: Vec<u8> },
     Delete { key: Vec<u8> },
     Batch { list: Vec<u8> },
+    Ops { ops: Vec<Op>, pool: Vec<u8> },
     Scan { prefix: Vec<u8>, most: u64, out: usize },
 }
 
 impl Call {
-    pub const KINDS: [&'static str; 7] =
-        ["mount", "get", "contains", "put", "delete", "batch", "scan"];
+    pub const KINDS: [&'static str; 8] =
+        ["mount", "get", "contains", "put", "delete", "batch", "ops", "scan"];
 
     /// The place of this call's kind in `KINDS`.
     pub fn kind(&self) -> usize {
@@ -28,7 +29,8 @@ impl Call {
             Call::Put { .. } => 3,
             Call::Delete { .. } => 4,
             Call::Batch { .. } => 5,
-            Call::Scan { .. } => 6,
+            Call::Ops { .. } => 6,
+            Call::Scan { .. } => 7,
         }
     }
 
@@ -49,6 +51,7 @@ impl Call {
             Call::Put { key, value } => session.put(key, value),
             Call::Delete { key } => session.delete(key),
             Call::Batch { list } => session.batch(list),
+            Call::Ops { ops, pool } => session.ops(ops, pool),
             Call::Scan { prefix, most, .. } => session.scan(prefix, *most, out),
         }
     }
@@ -69,6 +72,7 @@ impl Call {
             Call::Put { key, value } => subject.put(on, key, value),
             Call::Delete { key } => subject.delete(on, key),
             Call::Batch { list } => subject.batch(on, list),
+            Call::Ops { ops, pool } => subject.ops(on, ops, pool),
             Call::Scan { prefix, most, .. } => subject.scan(on, prefix, *most, out),
         }
     }

@@ -2,7 +2,7 @@
 
 use crate::bench::Bench;
 use crate::call::Call;
-use outcome::State;
+use outcome::{Op, State};
 use records::{entry, filling, item, journal, marker, record, region};
 
 const HEALTHS: [u64; 3] = [0, 1, 2];
@@ -12,6 +12,8 @@ pub fn all(bench: &mut Bench) {
     marker_counts(bench);
     operation_counts(bench);
     key_and_value_lengths(bench);
+    part_lengths(bench);
+    part_bounds(bench);
     tight_regions(bench);
     standing_markers(bench);
     shorter_region_later(bench);
@@ -68,6 +70,45 @@ fn operation_counts(bench: &mut Bench) {
         bench.stand(&region(8192, &[]), &[], State::default());
         bench.run(&Call::Batch { list });
         bench.run(&get(b"b"));
+        let delete = Op { kind: 2, key_len: 1, ..Op::default() };
+        bench.stand(&region(8192, &[]), &[], State::default());
+        bench.run(&Call::Ops { ops: vec![delete; count], pool: b"b".to_vec() });
+        bench.run(&get(b"b"));
+    }
+}
+
+/// Parts of a pool are judged by their true lengths, longer than a record's too.
+fn part_lengths(bench: &mut Bench) {
+    for first in [b'k', 0] {
+        let mut pool = vec![b'k'; 70001];
+        pool[0] = first;
+        for kind in [1, 2] {
+            for key_len in [0, 1, 96, 97, 255, 256, 70000] {
+                for value_len in [0, 1, 256, 257, 65535, 65536, 70000] {
+                    let op = Op { kind, key_at: 0, key_len, value_at: 1, value_len };
+                    bench.stand(&region(8192, &[]), &[], State::default());
+                    bench.run(&Call::Ops { ops: vec![op], pool: pool.clone() });
+                }
+            }
+        }
+    }
+}
+
+/// Every kind and every part of a small pool, and beyond it; a sound operation
+/// before it, so that the whole list is seen to come first.
+fn part_bounds(bench: &mut Bench) {
+    let put = Op { kind: 1, key_at: 0, key_len: 1, value_at: 1, value_len: 1 };
+    let places = [0, 1, 2, 3, 4, usize::MAX];
+    for kind in [0, 1, 2, 3, 255] {
+        for key_at in places {
+            for value_at in places {
+                for (key_len, value_len) in [(0, 0), (1, 0), (0, 1), (2, 1), (1, usize::MAX)] {
+                    let op = Op { kind, key_at, key_len, value_at, value_len };
+                    bench.stand(&region(8192, &[]), &[], in_health(1));
+                    bench.run(&Call::Ops { ops: vec![put, op], pool: b"a1b".to_vec() });
+                }
+            }
+        }
     }
 }
 

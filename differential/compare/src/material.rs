@@ -1,7 +1,9 @@
-//! Random keys, values, scripts, lists and regions, drawn so that the rules'
+//! Random keys, values, scripts, batches and regions, drawn so that the rules'
 //! edges come up often.
 
+use crate::call::Call;
 use crate::draw::Draw;
+use outcome::Op;
 use records::{entry, filling, item, journal, marker, record, region};
 
 /// Few short keys, so that calls meet each other's items; and the odd ones.
@@ -96,6 +98,45 @@ pub fn list(draw: &mut Draw) -> Vec<u8> {
         break_list(draw, &mut list);
     }
     list
+}
+
+/// Structs over one pool: each names a key and a value somewhere in it, so that
+/// parts lie over each other; now and then one is no operation.
+pub fn ops(draw: &mut Draw) -> Call {
+    let mut pool = [&b"abck0k1"[..], &[0, 0x63], &[b'v'; 300]].concat();
+    pool.truncate(draw.pick(&[0, 7, 9, 100, 309]));
+    let strict = draw.chance(60);
+    let lengths = if strict { &[0, 1, 2, 3][..] } else { &[0, 1, 96, 97, 256, 257, 300] };
+    let mut ops = Vec::new();
+    for _ in 0..draw.pick(&[0, 1, 2, 3, 6, 12]) {
+        let (key_at, key_len) = part(draw, &pool, lengths);
+        let (value_at, value_len) = part(draw, &pool, lengths);
+        let put = Op { kind: 1, key_at, key_len, value_at, value_len };
+        ops.push(if draw.chance(60) { put } else { Op { kind: 2, value_len: 0, ..put } });
+    }
+    if draw.chance(15) && !ops.is_empty() {
+        let at = draw.below(ops.len());
+        break_op(draw, &mut ops[at], pool.len());
+    }
+    Call::Ops { ops, pool }
+}
+
+/// A part of one of these lengths, cut off at the pool's end.
+fn part(draw: &mut Draw, pool: &[u8], lengths: &[usize]) -> (usize, usize) {
+    let at = draw.below(pool.len() + 1);
+    (at, draw.pick(lengths).min(pool.len() - at))
+}
+
+fn break_op(draw: &mut Draw, op: &mut Op, len: usize) {
+    match draw.below(7) {
+        0 => op.kind = draw.pick(&[0, 3, 255]),
+        1 => *op = Op { kind: 2, value_len: 1, ..*op },
+        2 => op.key_len = len - op.key_at.min(len) + 1,
+        3 => op.value_len = len - op.value_at.min(len) + 1,
+        4 => *op = Op { key_at: len + 1, key_len: 0, ..*op },
+        5 => *op = Op { value_at: len + 1, value_len: 0, ..*op },
+        _ => *op = Op { key_at: usize::MAX, key_len: draw.pick(&[0, 1, 2]), ..*op },
+    }
 }
 
 fn short_key(draw: &mut Draw) -> Vec<u8> {

@@ -4,7 +4,7 @@
 use crate::bench::Bench;
 use crate::call::Call;
 use crate::draw::Draw;
-use crate::material::{any_region, damage, key, list, position, script, value};
+use crate::material::{any_region, damage, key, list, ops, position, script, value};
 
 pub fn one(bench: &mut Bench, draw: &mut Draw) {
     let len = match draw.below(50) {
@@ -78,7 +78,8 @@ pub fn call(draw: &mut Draw) -> Call {
         2 => Call::Contains { key: key(draw) },
         3..=5 => Call::Put { key: key(draw), value: value(draw) },
         6..=7 => Call::Delete { key: key(draw) },
-        8..=9 => Call::Batch { list: list(draw) },
+        8 => Call::Batch { list: list(draw) },
+        9 => ops(draw),
         _ => scan(draw),
     }
 }

@@ -1,7 +1,7 @@
 //! What is compared with the Rust original: functions of region, script and
 //! state. The mirror is the plain model.
 
-use outcome::{Outcome, State};
+use outcome::{Op, Outcome, State};
 
 pub trait Subject {
     fn mount(&self, region: &mut [u8], script: &[u8], start: u32, at: u64) -> Outcome;
@@ -10,6 +10,7 @@ pub trait Subject {
     fn put(&self, on: On, key: &[u8], value: &[u8]) -> Outcome;
     fn delete(&self, on: On, key: &[u8]) -> Outcome;
     fn batch(&self, on: On, list: &[u8]) -> Outcome;
+    fn ops(&self, on: On, ops: &[Op], pool: &[u8]) -> Outcome;
     fn scan(&self, on: On, prefix: &[u8], most: u64, out: &mut [u8]) -> Outcome;
 }
 
@@ -45,6 +46,10 @@ impl Subject for Mirror {
 
     fn batch(&self, on: On, list: &[u8]) -> Outcome {
         model::batch(on.region, on.script, on.state, list)
+    }
+
+    fn ops(&self, on: On, ops: &[Op], pool: &[u8]) -> Outcome {
+        model::ops(on.region, on.script, on.state, ops, pool)
     }
 
     fn scan(&self, on: On, prefix: &[u8], most: u64, out: &mut [u8]) -> Outcome {

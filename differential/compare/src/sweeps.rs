@@ -3,7 +3,7 @@
 
 use crate::bench::Bench;
 use crate::call::Call;
-use outcome::State;
+use outcome::{Op, State};
 use records::{entry, item, journal, marker, record, region};
 
 pub fn all(bench: &mut Bench) {
@@ -30,24 +30,30 @@ fn scan(prefix: &[u8], most: u64, out: usize) -> Call {
     Call::Scan { prefix: prefix.to_vec(), most, out }
 }
 
-/// Document 01's batch with one fault anywhere, and with a second right after.
+/// Document 01's batch with one fault anywhere, and with a second right after;
+/// as a list and then as structs, and the other way round.
 fn batches(bench: &mut Bench) {
     let bytes = region(8192, &[item(b"a", b"1")]);
-    let list = [record(1, b"a", b"2"), record(2, b"b", b"")].concat();
+    let list = Call::Batch { list: [record(1, b"a", b"2"), record(2, b"b", b"")].concat() };
+    let put = Op { kind: 1, key_at: 0, key_len: 1, value_at: 1, value_len: 1 };
+    let delete = Op { kind: 2, key_at: 2, key_len: 1, value_at: 3, value_len: 0 };
+    let ops = Call::Ops { ops: vec![put, delete], pool: b"a2b".to_vec() };
     for code in 0..=255 {
         for place in 0..9 {
             for second in [None, Some(3), Some(0x83), Some(0x7f)] {
                 let mut script = fault_at(place, code);
                 script.extend(second);
-                bench.insert(&bytes, &[]);
-                bench.run(&Call::Mount { start: 0, at: 0 });
-                bench.set_script(&script, 0);
-                bench.run(&Call::Batch { list: list.clone() });
-                bench.run(&get(b"a"));
-                bench.run(&Call::Batch { list: list.clone() });
-                let at = bench.at();
-                if bench.run(&Call::Mount { start: 0, at }).answer == 1 {
-                    bench.run(&scan(b"", u64::MAX, 500));
+                for (batch, again) in [(&list, &ops), (&ops, &list)] {
+                    bench.insert(&bytes, &[]);
+                    bench.run(&Call::Mount { start: 0, at: 0 });
+                    bench.set_script(&script, 0);
+                    bench.run(batch);
+                    bench.run(&get(b"a"));
+                    bench.run(again);
+                    let at = bench.at();
+                    if bench.run(&Call::Mount { start: 0, at }).answer == 1 {
+                        bench.run(&scan(b"", u64::MAX, 500));
+                    }
                 }
             }
         }

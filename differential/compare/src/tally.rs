@@ -36,7 +36,7 @@ impl Tally {
         // scan that meets a long value after it has written records.
         let never = match (Call::KINDS[kind], outcome.number) {
             (_, 14) => true,
-            ("batch", 13) => health == CLEAN,
+            ("batch" | "ops", 13) => health == CLEAN,
             ("scan", 2) => outcome.count > 0,
             _ => false,
         };

@@ -4,16 +4,43 @@ use crate::codec::{entry, journal_key, marker, Op, MARKER_KEY};
 use crate::items::take;
 use crate::world::{on, World};
 use crate::{reserved, No, Yes};
-use outcome::{Outcome, State, CLEAN, DEBRIS, PENDING};
+use outcome::{Op as Named, Outcome, State, CLEAN, DEBRIS, PENDING};
 
 pub fn batch(region: &mut [u8], script: &[u8], state: State, list: &[u8]) -> Outcome {
+    apply(region, script, state, || operations(list))
+}
+
+/// The same with the operations as structs over a byte pool.
+pub fn ops(region: &mut [u8], script: &[u8], state: State, ops: &[Named], pool: &[u8]) -> Outcome {
+    apply(region, script, state, || ops.iter().map(|op| operation(op, pool)).collect())
+}
+
+fn apply(
+    region: &mut [u8],
+    script: &[u8],
+    state: State,
+    read: impl FnOnce() -> Option<Vec<Op>>,
+) -> Outcome {
     on(region, script, state, |world| {
-        let ops = operations(list).ok_or(No::BAD_LIST)?;
+        let ops = read().ok_or(No::BAD_LIST)?;
         if !ops.is_empty() {
             run(world, &ops)?;
         }
         Ok(Yes::plain(1))
     })
+}
+
+fn operation(op: &Named, pool: &[u8]) -> Option<Op> {
+    let part = |at: usize, len: usize| {
+        let rest = pool.get(at..)?;
+        rest.get(..len).map(<[u8]>::to_vec)
+    };
+    let (key, value) = (part(op.key_at, op.key_len)?, part(op.value_at, op.value_len)?);
+    match op.kind {
+        1 => Some(Op::Put(key, value)),
+        2 if op.value_len == 0 => Some(Op::Delete(key)),
+        _ => None,
+    }
 }
 
 fn operations(list: &[u8]) -> Option<Vec<Op>> {

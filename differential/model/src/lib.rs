@@ -9,7 +9,7 @@ mod recovery;
 mod scan;
 mod world;
 
-pub use batch::batch;
+pub use batch::{batch, ops};
 pub use calls::{contains, delete, get, mount, put};
 pub use scan::scan;
 

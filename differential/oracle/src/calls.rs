@@ -1,12 +1,12 @@
 //! get, contains, put, delete and batch, each one call of the original.
 
-use crate::list::operations;
+use crate::list::{named, operations};
 use crate::number::{said, BAD_LIST, OUTPUT_TOO_SMALL};
 use crate::said::Said;
 use crate::session::Session;
 use arxia_core::ArxiaError;
-use arxia_storage::StorageBackend;
-use outcome::Outcome;
+use arxia_storage::{BatchOp, StorageBackend};
+use outcome::{Op, Outcome};
 
 impl Session {
     pub fn get(&mut self, key: &[u8], out: &mut [u8]) -> Outcome {
@@ -30,7 +30,15 @@ impl Session {
     }
 
     pub fn batch(&mut self, list: &[u8]) -> Outcome {
-        self.on_good_image(|store| match operations(list) {
+        self.apply(|| operations(list))
+    }
+
+    pub fn ops(&mut self, ops: &[Op], pool: &[u8]) -> Outcome {
+        self.apply(|| named(ops, pool))
+    }
+
+    fn apply<'a>(&mut self, read: impl FnOnce() -> Option<Vec<BatchOp<'a>>>) -> Outcome {
+        self.on_good_image(|store| match read() {
             Some(ops) => ok(store.apply_batch(&ops)),
             None => Said::refused(BAD_LIST, [0; 3]),
         })

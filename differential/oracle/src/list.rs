@@ -1,6 +1,8 @@
-//! Document 01's operation list, read into the original's batch operations.
+//! Document 01's operation list and its operation structs, read into the
+//! original's batch operations.
 
 use arxia_storage::BatchOp;
+use outcome::Op;
 use sequential_storage::image::HEAD;
 
 /// All operations, or nothing if any record of the list is malformed: the
@@ -26,4 +28,20 @@ pub fn operations(list: &[u8]) -> Option<Vec<BatchOp<'_>>> {
         rest = &rest[size..];
     }
     Some(ops)
+}
+
+/// All operations that the structs name, or nothing if any of them has a part
+/// outside the pool or another kind.
+pub fn named<'a>(ops: &[Op], pool: &'a [u8]) -> Option<Vec<BatchOp<'a>>> {
+    let part = |at: usize, len: usize| pool.get(at..at.checked_add(len)?);
+    let one = |op: &Op| {
+        let key = part(op.key_at, op.key_len)?;
+        let value = part(op.value_at, op.value_len)?;
+        match op.kind {
+            1 => Some(BatchOp::Put { key, value }),
+            2 if value.is_empty() => Some(BatchOp::Delete { key }),
+            _ => None,
+        }
+    };
+    ops.iter().map(one).collect()
 }

@@ -1,5 +1,5 @@
 //! One call's outcome in plain numbers, so that answers of different programs
-//! can be compared field by field. Both structs are laid out as the proved code
+//! can be compared field by field. The structs are laid out as the proved code
 //! has them in its functions for C.
 
 pub const CLEAN: u64 = 0;
@@ -32,4 +32,16 @@ pub struct Outcome {
     pub at: u64,
     pub cut: u64,
     pub calls: u64,
+}
+
+/// One operation of a batch, its key and its value as parts of a byte pool.
+/// Kind 1 puts, 2 deletes.
+#[repr(C)]
+#[derive(Clone, Copy, Debug, Default, PartialEq, Eq)]
+pub struct Op {
+    pub kind: u8,
+    pub key_at: usize,
+    pub key_len: usize,
+    pub value_at: usize,
+    pub value_len: usize,
 }

@@ -184,22 +184,33 @@ module _ {M : Type 1} (𝓤 : URA M) (H : Heap 𝓤) (A : Atoms 𝓤) (W : Given
   exits : (r : CReply) → Is O₀ r (o-val r ∷ []) → (zs : List ℕ) → length zs ≡ length (a .0 .now)
       → Replies r zs (applyOps (a .0 .now) (a .1 .0 .now) (stateIn (a .1 .1 .0)) (a .1 .1 .1 .0 .now) (a .1 .1 .1 .1 .0 .now))
       → ent 𝓤 (⋆ 𝓤 H A (Toks ∷ ‵ (finally u8 (a .0 .name) zs) ∷ ‵ Left ∷ [])) (walkOf 𝓤 H A face.ended stayed (face.clauses 𝓤 H A mem run) .post y
-          (o-val r))
+      (o-val r))
   exits r g zs l e =
       qed W (Toks ∷ ‵ (finally u8 (a .0 .name) zs) ∷ ‵ Left ∷ []) ∵
-      suffices ! _ (ends-at 𝓤 H A face.ended stayed (face.clauses 𝓤 H A mem run) W y (o-val r) r (zs, (tt, (tt, (tt, (tt, tt))))) (l, (tt, (tt, (tt,
-          (tt, tt)))))) $
+      suffices ! _ (ends-at 𝓤 H A face.ended stayed (face.clauses 𝓤 H A mem run) W y (o-val r) r (zs, (tt, (tt, (tt, (tt, tt))))) (
+        l,
+        (
+          tt,
+          (
+            tt,
+            (
+              tt,
+              (tt, tt),
+            ),
+          ),
+        ),
+      )) $
       says ! e $ frame ! $ fjoin ! $ frame ! $ owned ! O₀ (Is O₀) (LL.makes O.the-type O′.the-plain 𝓤 H A) r _ g $ done !
 
   module _ (C : Calls 𝓤 H) (Λ : Loops 𝓤 H) (fm : FmC 𝓤 H (W .laws) C) (known-in : Triple 𝓤 (C #state-in) (In 𝓤 H A mem run))
       (known : Triple 𝓤 (C #callee) (Callee 𝓤 H A mem run)) (known-out : Triple 𝓤 (C #reply-out) (Converts 𝓤 H A mem run)) where
     walk : ent 𝓤 (onEntry 𝓤 H A face.signature κs qs a at)
         (WpFn 𝓤 H C Λ code.function (v₀ ∷ v₁ ∷ i-val (a .1 .1 .0) ∷ v₂ ∷ v₃ ∷ []) (walkOf 𝓤 H A face.ended stayed
-            (face.clauses 𝓤 H A mem run) .post y))
+        (face.clauses 𝓤 H A mem run) .post y))
     walk =
         qed W (Toks ∷ ‵ (fsep Own₀ (fsep Own₁ (fsep (I₀ .own (a .1 .1 .0) (i-val (a .1 .1 .0) ∷ [])) Rest))) ∷ []) ∵ enter ! C Λ code.function _ _ $
         alloc1 ! (λ l₀. alloc1 ! (λ l₁. alloc1 ! (λ l₂. alloc1 ! (λ l₃. alloc1 ! (λ l₄. alloc1 ! (λ l₅. alloc1 ! (λ l₆. alloc1 ! (λ l₇. alloc1 !
-            (λ l₈. alloc1 ! (λ l₉. alloc0 ! $ params1 ! $
+        (λ l₈. alloc1 ! (λ l₉. alloc0 ! $ params1 ! $
         pass1 ! (init ! 16 refl (tt, (tt, (record { fits = room₀ .0 }, tt)))) $
         pass1 ! (init ! 14 refl (tt, (tt, (record { fits = room₁ .0 }, tt)))) $
         pass1 ! (init ! 12 refl (LL.lawful I.the-type I′.the-laws 𝓤 H A W .typed (a .1 .1 .0) _ st-is .0)) $
@@ -209,9 +220,9 @@ module _ {M : Type 1} (𝓤 : URA M) (H : Heap 𝓤) (A : Atoms 𝓤) (W : Given
         use0 W (raw (In 𝓤 H A mem run .pre to-in)) goes-in $
         calls-at ! fm (In 𝓤 H A mem run) known-in to-in (and-then ! (load ! (from ! (stop !)) (look ! 13 refl)) (no-more !)) (λ w.
         use1 W (later (some (λ (st : State). (‵ ftrue ⊛ ‵ (S₀ .own st (w ∷ [])))
-            ⊛ raw (ensured 𝓤 H A state-in.ended (state-in.clauses 𝓤 H A mem run) tt (a .1 .1 .0, tt) tt st)))) (id⊢ 𝓤 _) $ await ! tt $ pick ! (λ st.
+        ⊛ raw (ensured 𝓤 H A state-in.ended (state-in.clauses 𝓤 H A mem run) tt (a .1 .1 .0, tt) tt st)))) (id⊢ 𝓤 _) $ await ! tt $ pick ! (λ st.
         split ! $ move ! (1 ∷ []) $ use1 W (some (λ (ws : Unit {0} × Unit {0}). ‵ (lasts state-in.ended tt (a .1 .1 .0, tt) ws)
-            ⊛ raw (fact 𝓤 (st ≡ stateIn (a .1 .1 .0))))) (id⊢ 𝓤 _) $ pick ! (λ ws.
+        ⊛ raw (fact 𝓤 (st ≡ stateIn (a .1 .1 .0))))) (id⊢ 𝓤 _) $ pick ! (λ ws.
         split ! $ drop ! $ heard ! (st ≡ stateIn (a .1 .1 .0)) (λ e₁. split ! $ move ! (1 ∷ []) $
         peeks ! S₀ (Is S₀) (shows 𝓤 H A S₀) st (w ∷ []) (λ g₁.
         land ! (from ! (stop !)) (init ! 8 refl (LL.lawful S.the-type S′.the-laws 𝓤 H A W .typed st (w ∷ []) g₁ .0)) $
@@ -219,19 +230,19 @@ module _ {M : Type 1} (𝓤 : URA M) (H : Heap 𝓤) (A : Atoms 𝓤) (W : Given
         -- [_9; …; _0; …; the tokens; what is owned]: the region is lent on, and the call made
         assigns ! (addr ! (from ! (fld ! refl (hop ! (look-in ! 16 (sub ! 0 refl (whole !))) (stop !))))) (from ! (stop !)) (init ! 2 refl (tt, tt)) $
         assigns ! (agg ! (and-then ! (load ! (from ! (stop !)) (look ! 2 refl)) (and-then ! (load ! (from ! (fld ! refl (stop !))) (look-in ! 16
-            (sub ! 1 refl (whole !)))) (no-more !)))) (from ! (stop !)) (init ! 0 refl (tt, (tt, (record { fits = room₀ .0 }, tt)))) $
+        (sub ! 1 refl (whole !)))) (no-more !)))) (from ! (stop !)) (init ! 0 refl (tt, (tt, (record { fits = room₀ .0 }, tt)))) $
         move ! (21 ∷ []) $ fsplit ! $ move ! (1 ∷ []) $ fsplit ! $ move ! (1 ∷ []) $ fsplit ! $ drop ! $
         owned ! S₀ (Is S₀) (LL.makes S.the-type S′.the-plain 𝓤 H A) st _ (subst (Is S₀ st) (LL.tells S.the-type S′.the-laws st (w ∷ []) g₁) g₁) $
         fjoin ! $ move ! (1 ∷ 0 ∷ []) $ fjoin ! $ move ! (1 ∷ 0 ∷ []) $ fjoin ! $
         move ! (21 ∷ 0 ∷ []) $ use2 W (raw (Callee 𝓤 H A mem run .pre (to st))) (goes st) $
         calls-at ! fm (Callee 𝓤 H A mem run) known (to st)
         (and-then ! (load ! (from ! (stop !)) (look ! 1 refl)) (and-then ! (load ! (from ! (stop !)) (look ! 15 refl)) (and-then ! (load ! (from !
-            (stop !)) (look ! 7 refl)) (and-then ! (load ! (from ! (stop !)) (look ! 11 refl)) (and-then ! (load ! (from ! (stop !))
-                (look ! 9 refl)) (no-more !)))))) (λ w₂.
+        (stop !)) (look ! 7 refl)) (and-then ! (load ! (from ! (stop !)) (look ! 11 refl)) (and-then ! (load ! (from ! (stop !))
+        (look ! 9 refl)) (no-more !)))))) (λ w₂.
         use1 W (later (some (λ (r : Reply). (Toks ⊛ ‵ (Y₀ .own r (w₂ ∷ [])))
-            ⊛ raw (ensured 𝓤 H A callee.ended (callee.clauses 𝓤 H A mem run) κs (args st) tt r)))) (id⊢ 𝓤 _) $ await ! tt $ pick ! (λ r.
+        ⊛ raw (ensured 𝓤 H A callee.ended (callee.clauses 𝓤 H A mem run) κs (args st) tt r)))) (id⊢ 𝓤 _) $ await ! tt $ pick ! (λ r.
         split ! $ move ! (1 ∷ []) $ use1 W (some (λ (ws : Lasts callee.ended κs (args st)). ‵ (lasts callee.ended κs (args st) ws)
-            ⊛ raw (fact 𝓤 (Called st r (ws .0))))) (id⊢ 𝓤 _) $ pick ! (λ zs.
+        ⊛ raw (fact 𝓤 (Called st r (ws .0))))) (id⊢ 𝓤 _) $ pick ! (λ zs.
         split ! $ move ! (1 ∷ []) $ heard ! (Called st r (zs .0)) (λ e₂. fsplit ! $ fsplit ! $ move ! (1 ∷ []) $ feqL ! (λ l.
         -- [the region's last bytes; the others'; tokens and result; _9; …]
         move ! (2 ∷ []) $ split ! $ move ! (1 ∷ []) $ peeks ! Y₀ (Is Y₀) (shows 𝓤 H A Y₀) r (w₂ ∷ []) (λ g₂.
@@ -241,9 +252,9 @@ module _ {M : Type 1} (𝓤 : URA M) (H : Heap 𝓤) (A : Atoms 𝓤) (W : Given
         use0 W (raw (Converts 𝓤 H A mem run .pre (to-out r))) (goes-out r (subst (Is Y₀ r) (LL.tells Y.the-type Y′.the-laws r (w₂ ∷ []) g₂) g₂)) $
         calls-at ! fm (Converts 𝓤 H A mem run) known-out (to-out r) (and-then ! (load ! (from ! (stop !)) (look ! 8 refl)) (no-more !)) (λ w₃.
         use1 W (later (some (λ (c : CReply). (‵ ftrue ⊛ ‵ (O₀ .own c (w₃ ∷ [])))
-            ⊛ raw (ensured 𝓤 H A reply-out.ended (reply-out.clauses 𝓤 H A mem run) tt (r, tt) tt c)))) (id⊢ 𝓤 _) $ await ! tt $ pick ! (λ c.
+        ⊛ raw (ensured 𝓤 H A reply-out.ended (reply-out.clauses 𝓤 H A mem run) tt (r, tt) tt c)))) (id⊢ 𝓤 _) $ await ! tt $ pick ! (λ c.
         split ! $ move ! (1 ∷ []) $ use1 W (some (λ (ws : Unit {0} × Unit {0}). ‵ (lasts reply-out.ended tt (r, tt) ws)
-            ⊛ raw (fact 𝓤 (c ≡ answerOut (r .answer) (r .state) (r .calls))))) (id⊢ 𝓤 _) $ pick ! (λ ws₃.
+        ⊛ raw (fact 𝓤 (c ≡ answerOut (r .answer) (r .state) (r .calls))))) (id⊢ 𝓤 _) $ pick ! (λ ws₃.
         split ! $ drop ! $ heard ! (c ≡ answerOut (r .answer) (r .state) (r .calls)) (λ e₃. split ! $ move ! (1 ∷ []) $
         peeks ! O₀ (Is O₀) (shows 𝓤 H A O₀) c (w₃ ∷ []) (λ g₃.
         land ! (from ! (stop !)) (init ! 23 refl (LL.lawful O.the-type O′.the-laws 𝓤 H A W .typed c (w₃ ∷ []) g₃ .0)) $
@@ -257,31 +268,43 @@ module _ {M : Type 1} (𝓤 : URA M) (H : Heap 𝓤) (A : Atoms 𝓤) (W : Given
         move ! (5 ∷ 6 ∷ []) $ free1 ! $ move ! (3 ∷ 4 ∷ []) $ free1 ! $ free0 ! $
         by ! (exits c (subst (Is O₀ c) (LL.tells O.the-type O′.the-laws c (w₃ ∷ []) g₃) g₃) (zs .0) l
         (replies e₃ (e₂ ∙ ap (λ (st : State). applyOps (a .0 .now) (a .1 .0 .now) st (a .1 .1 .1 .0 .now)
-            (a .1 .1 .1 .1 .0 .now)) e₁)))))))))))))))))))))))))))))
+        (a .1 .1 .1 .1 .0 .now)) e₁)))))))))))))))))))))))))))))
 
 pub takes-ops-spec : {M : Type 1} → stated.statement M
 unfolding code.routine
 takes-ops-spec 𝓤 H 𝓜 𝓖 𝓡 = stands 𝓤 H 𝓜 𝓖 𝓡 face.ended stayed (face.clauses 𝓤 H (𝓖 .A) (𝓜 .mem) (𝓡 .run)) code.env #own code.function
     (code.unfolded 𝓤 H 𝓜 𝓡) (
-  goes-gave-slice 𝓤 H (𝓖 .A) (givenOf 𝓤 H 𝓜 𝓖) 4 0 tt (plain (λ _. u8)),
-  (
-    goes-dropped 𝓤 H (𝓖 .A) (givenOf 𝓤 H 𝓜 𝓖) 4 (shrSliceOf (1 ∷ []) tt (plain (λ _. u8))) yes (λ κs x e. refl),
-    (
-      goes-dropped 𝓤 H (𝓖 .A) (givenOf 𝓤 H 𝓜 𝓖) 4 (plain (λ _. I₀)) yes (λ κs x e. refl),
+      goes-gave-slice 𝓤 H (𝓖 .A) (givenOf 𝓤 H 𝓜 𝓖) 4 0 tt (plain (λ _. u8)),
       (
-        goes-dropped 𝓤 H (𝓖 .A) (givenOf 𝓤 H 𝓜 𝓖) 4 (shrSliceOf (2 ∷ []) tt (plain (λ _. R))) yes (λ κs x e. refl),
-        (goes-dropped 𝓤 H (𝓖 .A) (givenOf 𝓤 H 𝓜 𝓖) 4 (shrSliceOf (3 ∷ []) tt (plain (λ _. u8))) yes (λ κs x e. refl), tt),
+        goes-dropped 𝓤 H (𝓖 .A) (givenOf 𝓤 H 𝓜 𝓖) 4 (shrSliceOf (1 ∷ []) tt (plain (λ _. u8))) yes (λ κs x e. refl),
+        (
+          goes-dropped 𝓤 H (𝓖 .A) (givenOf 𝓤 H 𝓜 𝓖) 4 (plain (λ _. I₀)) yes (λ κs x e. refl),
+          (
+            goes-dropped 𝓤 H (𝓖 .A) (givenOf 𝓤 H 𝓜 𝓖) 4 (shrSliceOf (2 ∷ []) tt (plain (λ _. R))) yes (λ κs x e. refl),
+            (goes-dropped 𝓤 H (𝓖 .A) (givenOf 𝓤 H 𝓜 𝓖) 4 (shrSliceOf (3 ∷ []) tt (plain (λ _. u8))) yes (λ κs x e. refl), tt),
+          ),
+        ),
       ),
-    ),
-  ),
-)
+    )
     (λ κs. (slice-vals, (slice-vals, (LL.vals I.the-type I′.the-laws, (slice-vals, (slice-vals, tt))))))
-    (λ κs. (mut-slice-tells (named 0) (κs .0) u8, (shr-slice-tells (named 1) (κs .1 .0) u8, (LL.tells I.the-type I′.the-laws, (shr-slice-tells
-        (named 2) (κs .1 .1 .0) R, (shr-slice-tells (named 3) (κs .1 .1 .1 .0) u8, tt))))))
+    (λ κs. (
+      mut-slice-tells (named 0) (κs .0) u8,
+      (
+        shr-slice-tells (named 1) (κs .1 .0) u8,
+        (
+          LL.tells I.the-type I′.the-laws,
+          (
+            shr-slice-tells
+                (named 2) (κs .1 .1 .0) R,
+            (shr-slice-tells (named 3) (κs .1 .1 .1 .0) u8, tt),
+          ),
+        ),
+      ),
+    ))
     (λ fm κs qs bounds a g are. walk 𝓤 H (𝓖 .A) (givenOf 𝓤 H 𝓜 𝓖) (𝓜 .mem) (𝓡 .run) κs qs a
     (are .0 .0 .1) (are .1 .0 .0 .1) (are .1 .1 .0) (are .1 .1 .1 .0 .0 .1) (are .1 .1 .1 .1 .0 .0 .1) _ _ fm
     (cited 𝓤 H (In 𝓤 H (𝓖 .A) (𝓜 .mem) (𝓡 .run)) 𝓜 𝓡 code.env #state-in state-in-def.routine code.calls-exports·state-in (state-in-thm.met 𝓤 H 𝓜 𝓖 𝓡))
     (cited 𝓤 H (Callee 𝓤 H (𝓖 .A) (𝓜 .mem) (𝓡 .run)) 𝓜 𝓡 code.env #callee callee-def.routine code.calls-operations·apply-ops
-        (callee-thm.met 𝓤 H 𝓜 𝓖 𝓡))
+    (callee-thm.met 𝓤 H 𝓜 𝓖 𝓡))
     (cited 𝓤 H (Converts 𝓤 H (𝓖 .A) (𝓜 .mem) (𝓡 .run)) 𝓜 𝓡 code.env #reply-out reply-out-def.routine code.calls-exports·reply-out
-        (reply-out-thm.met 𝓤 H 𝓜 𝓖 𝓡)))
+    (reply-out-thm.met 𝓤 H 𝓜 𝓖 𝓡)))
