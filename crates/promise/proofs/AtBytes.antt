@@ -15,12 +15,12 @@ use Rattle.definition.specs.declared.State.{State}
 use Rattle.definition.specs.declared.Fault.{Fault}
 use Rattle.definition.specs.declared.Health.{Health}
 use Rattle.definition.proofs.Codecs.{rising-irreflexive, rising-transitive, rising-total}
-use Rattle.definition.proofs.Ensures.{Ends, well, ill}
-use Rattle.definition.proofs.MapLaws.{Reckoning, no-reckoning}
-use Rattle.definition.proofs.FlatLaws.{flat-laws}
-use Rattle.definition.proofs.StandsFor.{Either, Stands, to-either, is-good, extent-is}
-use Rattle.definition.proofs.Answers.{Never}
-use Rattle.definition.proofs.Listings.{StrictOrder}
+use Rattle.reasons.proofs.Ensures.{Ends, well, ill}
+use Rattle.reasons.proofs.MapLaws.{Reckoning, no-reckoning}
+use Rattle.reasons.proofs.FlatLaws.{flat-laws}
+use Rattle.reasons.proofs.StandsFor.{Either, Stands, to-either, is-good, extent-is}
+use Rattle.reasons.proofs.Answers.{Never}
+use Rattle.reasons.proofs.Listings.{StrictOrder}
 use Rattle.promise.specs.Promise.{Plain}
 
 -- document 01 reckons nothing beforehand

@@ -17,9 +17,9 @@ use Rattle.definition.specs.Calls.{putFault, opsFault, batchFault, regionFault}
 use Rattle.definition.specs.declared.Step.{Step}
 use Rattle.definition.specs.declared.Fault.{Fault}
 use Rattle.definition.proofs.Choices.{pick-yes, pick-to, both, opt-to, true≢false}
-use Rattle.definition.proofs.StandsFor.{none≢some}
-use Rattle.definition.proofs.Ensures.{Obeys}
-use Rattle.definition.proofs.Recovers.{Cause, by-fate, no-room}
+use Rattle.reasons.proofs.StandsFor.{none≢some}
+use Rattle.reasons.proofs.Ensures.{Obeys}
+use Rattle.reasons.proofs.Recovers.{Cause, by-fate, no-room}
 
 -- "an item fault (4 to 12, from an item call)", and what means no change whatever the call, as tests
 unfoldable pub itemFault : Fault → Bool

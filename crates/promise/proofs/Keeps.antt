@@ -29,14 +29,14 @@ use Rattle.definition.specs.declared.TruthAnswer.{TruthAnswer}
 use Rattle.definition.specs.declared.TruthAnswer.the-variants as Truth
 use Rattle.definition.specs.declared.Scanned.{Scanned}
 use Rattle.definition.proofs.Choices.{pick-yes, opt-to}
-use Rattle.definition.proofs.Ensures.{Ensures, by-ret, by-option, weaken, Ends, Obeys, exec-ensures}
-use Rattle.definition.proofs.FlatLaws.{flat-laws}
-use Rattle.definition.proofs.Overlay.{effect, effects, updated, updatedAll}
-use Rattle.definition.proofs.Answers.{Never}
-use Rattle.definition.proofs.Answers as Answers
-use Rattle.definition.proofs.Batches as Batches
-use Rattle.definition.proofs.Listings as Listings
-use Rattle.definition.proofs.Scans as Scans
+use Rattle.reasons.proofs.Ensures.{Ensures, by-ret, by-option, weaken, Ends, Obeys, exec-ensures}
+use Rattle.reasons.proofs.FlatLaws.{flat-laws}
+use Rattle.reasons.proofs.Overlay.{effect, effects, updated, updatedAll}
+use Rattle.reasons.proofs.Answers.{Never}
+use Rattle.reasons.proofs.Answers as Answers
+use Rattle.reasons.proofs.Batches as Batches
+use Rattle.reasons.proofs.Listings as Listings
+use Rattle.reasons.proofs.Scans as Scans
 use Rattle.promise.specs.Run.{Source, fromList, fromPool, operations, batched, Call, rescript, mount, get, contains, put, delete, applyBatch, scanPrefix, Heard, answered, told, got, listed, refusalOf, Moment, made, stateAfter, mounting, turn, later}
 use Rattle.promise.specs.Promise.{Plain, after, afterAll, rises, AllOf, Kept, end, then}
 use Rattle.promise.specs.Promise as P

@@ -26,11 +26,11 @@ use Rattle.definition.specs.declared.Answer.the-variants.{Refused}
 use Rattle.definition.specs.declared.TruthAnswer.{TruthAnswer}
 use Rattle.definition.specs.declared.TruthAnswer.the-variants as Truth
 use Rattle.definition.proofs.Choices.{pick-yes, pick-no, bool, opt-none}
-use Rattle.definition.proofs.Ensures.{Ensures, Ends, Obeys, exec-ensures}
-use Rattle.definition.proofs.FlatLaws.{flat-laws}
-use Rattle.definition.proofs.Recovers.{by-fate, no-room}
-use Rattle.definition.proofs.Answers as Answers
-use Rattle.definition.proofs.Answers.{Never}
+use Rattle.reasons.proofs.Ensures.{Ensures, Ends, Obeys, exec-ensures}
+use Rattle.reasons.proofs.FlatLaws.{flat-laws}
+use Rattle.reasons.proofs.Recovers.{by-fate, no-room}
+use Rattle.reasons.proofs.Answers as Answers
+use Rattle.reasons.proofs.Answers.{Never}
 use Rattle.promise.specs.Run.{mount, contains, answered, told, Moment, made, mounting, turn, later}
 use Rattle.promise.specs.Promise.{Plain, plainOf}
 use Rattle.promise.specs.Beside.{Calm, Responds, ok, full, yes, no, full-told, LastSentence}

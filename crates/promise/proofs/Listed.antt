@@ -13,8 +13,8 @@ use Rattle.definition.specs.Scan.{rising, lastOf, beyond}
 use Rattle.definition.proofs.Choices.{pick-yes, pick-no, both, bool, cases, true≢false, eqs-refl, eqs-true}
 use Rattle.definition.proofs.Codecs.{rising-irreflexive, rising-transitive}
 use Rattle.definition.proofs.Items.{key-of, has-its-key}
-use Rattle.definition.proofs.StandsFor.{none≢some}
-use Rattle.definition.proofs.Listings.{Rising, found-after, not-beyond}
+use Rattle.reasons.proofs.StandsFor.{none≢some}
+use Rattle.reasons.proofs.Listings.{Rising, found-after, not-beyond}
 use Rattle.promise.specs.Promise.{Plain, rises, AllOf}
 use Rattle.promise.specs.Beside.{FirstOf}
 use Rattle.promise.proofs.AtBytes.{rising-order}

@@ -20,7 +20,7 @@ use Rattle.definition.specs.declared.GetAnswer.{GetAnswer}
 use Rattle.definition.specs.declared.GetAnswer.the-variants as Get
 use Rattle.definition.specs.declared.TruthAnswer.the-variants as Truth
 use Rattle.definition.proofs.Computes.{computes}
-use Rattle.definition.proofs.StandsFor.{none≢some}
+use Rattle.reasons.proofs.StandsFor.{none≢some}
 use Rattle.promise.specs.Run.{mount, get, answered, got, refusalOf}
 use Rattle.promise.specs.Promise.{Plain, Step}
 use Rattle.promise.specs.Promise as P

@@ -21,8 +21,8 @@ use Rattle.definition.specs.declared.Answer.{Answer}
 use Rattle.definition.specs.declared.Answer.the-variants.{Refused}
 use Rattle.definition.proofs.Choices.{pick-no, bool, opt-to}
 use Rattle.definition.proofs.Codecs.{marker-reserved}
-use Rattle.definition.proofs.FlatLaws.{flat-laws}
-use Rattle.definition.proofs.StandsFor.{none≢some, out}
+use Rattle.reasons.proofs.FlatLaws.{flat-laws}
+use Rattle.reasons.proofs.StandsFor.{none≢some, out}
 use Rattle.promise.specs.Run.{Call, rescript, mount, get, contains, put, delete, applyBatch, scanPrefix, Heard, Moment, Turn, made, stateAfter, mounting, turn, later, refusalOf}
 use Rattle.promise.specs.Promise.{Plain, Kept, end, then, Start, plainOf, Promise, Never13}
 use Rattle.promise.specs.Promise as P

@@ -7,18 +7,18 @@ use Prim.Native.Nat.{ℕ, zero, suc, _+_, _*_, _/_, _≤_, _<_}
 use native.Mathlib.Omega.{arith}
 use lib.ListN.{length}
 use borrow.Author.Tests.{ltb-true, le-ltb, ne-eqb}
 use Rattle.definition.specs.Tools.{Bytes, pick}
 use Rattle.definition.specs.Region.{Item, item, hasKey, fetched, removed, size, span, spanOf, used, allowed, items, look, keyLimit}
 use Rattle.definition.specs.Codec.{Op, batchLimit, longKey, be16, journalKey, encode}
 use Rattle.definition.specs.Program.{flat}
 use Rattle.definition.specs.Recovery.{tooMany}
 use Rattle.definition.proofs.Choices.{pick-yes, pick-no, bool}
 use Rattle.definition.proofs.Codecs.{journal-injective}
 use Rattle.definition.proofs.Items.{key-of, AllAllowed, fetched-removed-other}
 use Rattle.definition.proofs.Records.{bounded}
 use Rattle.definition.proofs.Image.{view, used-fits, good-parts, remove-good, look-remove-same, look-remove-other, store-good, look-store-same, look-store-other, remove-length, store-length}
-use Rattle.definition.proofs.StandsFor.{none≢some}
-use Rattle.definition.proofs.MapLaws.{Laws}
+use Rattle.reasons.proofs.StandsFor.{none≢some}
+use Rattle.reasons.proofs.MapLaws.{Laws}
 
 -- ---- no over-long key
 

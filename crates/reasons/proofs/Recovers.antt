@@ -10,19 +10,19 @@ use native.Mathlib.Decide.{ℕ-discrete, decLt}
 use native.Mathlib.Omega.{arith}
 use lib.ListN.{length}
 use lib.Dec.{eqb}
 use Rattle.definition.specs.Tools.{Bytes, pick, eqs}
 use Rattle.definition.specs.Region.{Item, item, hasKey, fetched}
 use Rattle.definition.specs.Codec.{Op, Put, Delete, reserved, be16, journalKey, markerKey, encode}
 use Rattle.definition.specs.Program.{Prog, err, onP, ask, Map, remove}
 use Rattle.definition.specs.Recovery.{isJournal, journalKeys, tooMany, act, land, redoEntry, redo, replay, iterate, dropEach, discard, recoverBy, recover}
 use Rattle.definition.specs.declared.Fault.{Fault}
 use Rattle.definition.specs.declared.Fault.the-variants.{FullStorage}
 use Rattle.definition.proofs.Choices.{pick-yes, pick-no, both, bool, cases, true≢false, eqs-true, eqs-apart}
 use Rattle.definition.proofs.Codecs.{decode-encode, marker-back}
-use Rattle.definition.proofs.Ensures.{Why, fated, full, Ensures, by-ret, by-err, by-see, by-call, along, weaken, by-none, by-some, by-test, by-fetch, by-step, by-store, by-remove}
-use Rattle.definition.proofs.MapLaws.{Laws, Reckoning, Journal, without, acted, roomy}
-use Rattle.definition.proofs.Overlay.{Plain}
-use Rattle.definition.proofs.StandsFor.{Unmarked as UnmarkedIn, Tidy as TidyIn, Marked as MarkedIn, Either as EitherIn, out, within, unmarked-drop, marked-acted, marked-landed, marked-finished, below-without}
+use Rattle.reasons.proofs.Ensures.{Why, fated, full, Ensures, by-ret, by-err, by-see, by-call, along, weaken, by-none, by-some, by-test, by-fetch, by-step, by-store, by-remove}
+use Rattle.reasons.proofs.MapLaws.{Laws, Reckoning, Journal, without, acted, roomy}
+use Rattle.reasons.proofs.Overlay.{Plain}
+use Rattle.reasons.proofs.StandsFor.{Unmarked as UnmarkedIn, Tidy as TidyIn, Marked as MarkedIn, Either as EitherIn, out, within, unmarked-drop, marked-acted, marked-landed, marked-finished, below-without}
 
 -- ---- causes
 

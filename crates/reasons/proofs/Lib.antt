@@ -1,0 +1,10 @@
+pub mod Ensures
+pub mod MapLaws
+pub mod FlatLaws
+pub mod Overlay
+pub mod StandsFor
+pub mod Recovers
+pub mod Answers
+pub mod Batches
+pub mod Listings
+pub mod Scans
