@@ -5,6 +5,7 @@ use Prim.Native.Nat.{ℕ}
 use Rattle.definition.specs.Tools.{Bytes}
 use Rattle.definition.specs.Numbers.{number}
 use Rattle.definition.specs.Public.{Outcome, outcome}
+use Rattle.definition.specs.declared.Space.{Space}
 use Rattle.definition.specs.declared.State.{State}
 use Rattle.definition.specs.declared.Fault.{Fault}
 use Rattle.definition.specs.declared.Answer.{Answer}
@@ -16,13 +17,28 @@ use Rattle.numbers.specs.Forms.{valuesThree}
 use Rattle.exports.specs.declared.CReply.{CReply}
 use Rattle.exports.specs.Forms.{healthNumber, flagNumber, built, refused, answerOut, getOut, truthOut, scanOut, Replies, Gets, Truths, Lists}
 
-abbrev crossed : ℕ → ℕ → Three → ℕ → ℕ → ℕ → ℕ → ℕ → ℕ → CReply
-crossed a n v count len h at cut calls =
-    record { answer = a; number = n; v0 = v .0; v1 = v .1; v2 = v .2; count = count; length = len; health = h; at = at; cut = cut; calls = calls }
+abbrev crossed : ℕ → ℕ → Three → ℕ → ℕ → ℕ → ℕ → ℕ → Space → ℕ → CReply
+crossed a n v count len h at cut space calls =
+    record {
+      answer = a;
+      number = n;
+      v0 = v .0;
+      v1 = v .1;
+      v2 = v .2;
+      count = count;
+      length = len;
+      health = h;
+      at = at;
+      cut = cut;
+      used = space .used;
+      free = space .free;
+      takes = space .takes;
+      calls = calls;
+    }
 
 pub built-is : (a n : ℕ) (v : Three) (count len : ℕ) (st : State) (calls : ℕ) {h f : ℕ} → h ≡ healthNumber (st .health) → f ≡ flagNumber (st .cut)
-    → crossed a n v count len h (st .at) f calls ≡ built a n v count len st calls
-built-is a n v count len st calls eh ef = ap₂ (λ h f. crossed a n v count len h (st .at) f calls) eh ef
+    → crossed a n v count len h (st .at) f (st .space) calls ≡ built a n v count len st calls
+built-is a n v count len st calls eh ef = ap₂ (λ h f. crossed a n v count len h (st .at) f (st .space) calls) eh ef
 
 pub refused-is : (f : Fault) (count len : ℕ) (st : State) (calls : ℕ) {n : ℕ} {v : Three} {r : CReply} → n ≡ number f → v ≡ valuesThree f → r ≡ built 0 n v count len st calls
     → r ≡ refused f count len st calls

@@ -6,6 +6,7 @@ use lib.Dec.{eqb}
 use Rattle.definition.specs.Tools.{Bytes, pick}
 use Rattle.definition.specs.Numbers.{number}
 use Rattle.definition.specs.Public.{Outcome}
+use Rattle.definition.specs.declared.Space.{Space}
 use Rattle.definition.specs.declared.State.{State}
 use Rattle.definition.specs.declared.Fault.{Fault}
 use Rattle.definition.specs.declared.Health.{Health}
@@ -23,6 +24,7 @@ use Rattle.numbers.specs.declared.Three.{Three}
 use Rattle.numbers.specs.Forms.{threeOf, valuesThree}
 use Rattle.exports.specs.declared.CState.{CState}
 use Rattle.exports.specs.declared.CReply.{CReply}
+use Rattle.exports.specs.declared.CSpace.{CSpace}
 
 unfoldable pub healthNumber : Health → ℕ
 healthNumber Clean = 0
@@ -37,7 +39,16 @@ flagNumber true = 1
 flagNumber false = 0
 
 abbrev pub stateIn : CState → State
-stateIn c = record { health = healthOf (c .health); at = c .at; cut = not (eqb (c .cut) 0) }
+stateIn c =
+    record {
+      health = healthOf (c .health);
+      at = c .at;
+      cut = not (eqb (c .cut) 0);
+      space = record { used = c .used; free = c .free; takes = c .takes };
+    }
+
+abbrev pub spaceOut : Space → CSpace
+spaceOut n = record { used = n .used; free = n .free; takes = n .takes }
 
 abbrev pub built : ℕ → ℕ → Three → ℕ → ℕ → State → ℕ → CReply
 built a n v count length st calls =
@@ -52,6 +63,9 @@ built a n v count length st calls =
       health = healthNumber (st .health);
       at = st .at;
       cut = flagNumber (st .cut);
+      used = st .space .used;
+      free = st .space .free;
+      takes = st .space .takes;
       calls = calls;
     }
 

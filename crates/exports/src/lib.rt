@@ -9,20 +9,24 @@ use definition::Health;
 use definition::Reply;
 use definition::ScanEnd;
 use definition::ScanReply;
+use definition::Space;
 use definition::State;
 use definition::TruthAnswer;
 use definition::TruthReply;
 use numbers::Three;
 ghost use mathlib.Core.Path.{_≡_};
 ghost use Rattle.definition.specs.Public;
-ghost use Rattle.exports.specs.Forms.{healthNumber, healthOf, flagNumber, stateIn, built, refused, answerOut, getOut, truthOut, endOut, scanOut, Replies, Gets, Truths, Lists};
+ghost use Rattle.exports.specs.Forms.{healthNumber, healthOf, flagNumber, stateIn, spaceOut, built, refused, answerOut, getOut, truthOut, endOut, scanOut, Replies, Gets, Truths, Lists};
 
-// What a host keeps: health 0 Clean, 1 Debris, 2 Pending; the place in the script; whether the power is cut.
+// What a host keeps: health 0 Clean, 1 Debris, 2 Pending; the place in the script; whether the power is cut; the bytes used and free, and the takes.
 #[repr(C)]
 pub struct CState {
     pub health: u64,
     pub at: u64,
     pub cut: u64,
+    pub used: u64,
+    pub free: u64,
+    pub takes: u64,
 }
 
 // What a host hears. answer: 0 refused, with document 01's number and values; 1 Ok, found, yes or finished; 2 absent, no or stopped; 3 no room.
@@ -39,7 +43,18 @@ pub struct CReply {
     pub health: u64,
     pub at: u64,
     pub cut: u64,
+    pub used: u64,
+    pub free: u64,
+    pub takes: u64,
     pub calls: u64,
+}
+
+// What a display shows: the bytes used and free, and the takes.
+#[repr(C)]
+pub struct CSpace {
+    pub used: u64,
+    pub free: u64,
+    pub takes: u64,
 }
 
 fn health_number(health: Health) -> u64
@@ -79,10 +94,16 @@ fn state_in(state: CState) -> State
 {
     let health = health_of(state.health);
     let cut = state.cut != 0;
+    let space = Space {
+        used: state.used as usize,
+        free: state.free as usize,
+        takes: state.takes as usize,
+    };
     State {
         health: health,
         at: state.at as usize,
         cut: cut,
+        space: space,
     }
 }
 
@@ -100,6 +121,7 @@ fn built_of(
     let kept = state.health;
     let health = health_number(kept);
     let cut = flag_number(state.cut);
+    let space = state.space;
     CReply {
         answer: answer,
         number: number,
@@ -111,6 +133,9 @@ fn built_of(
         health: health,
         at: state.at as u64,
         cut: cut,
+        used: space.used as u64,
+        free: space.free as u64,
+        takes: space.takes as u64,
         calls: calls,
     }
 }
@@ -304,4 +329,16 @@ pub extern "C" fn takes_scan(
 {
     let state = state_in(state);
     scan_reply_out(listing::scan_prefix(region, script, state, prefix, most as usize, out))
+}
+
+#[no_mangle]
+pub extern "C" fn takes_space(state: CState) -> CSpace
+    ensures { λ r. ⌜ r ≡ spaceOut (Public.space (stateIn state)) ⌝ }
+{
+    let space = store::space(state_in(state));
+    CSpace {
+        used: space.used as u64,
+        free: space.free as u64,
+        takes: space.takes as u64,
+    }
 }

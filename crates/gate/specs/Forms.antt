@@ -45,7 +45,7 @@ unreadyOf (Failed f t) = record { fault = f; step = t }
 -- ---- replies
 
 abbrev pub stateOf : Health → Step → State
-stateOf h t = record { health = h; at = t .at; cut = t .cut }
+stateOf h t = record { health = h; at = t .at; cut = t .cut; space = t .space }
 
 abbrev pub replyOf : Answer → Health → Step → Reply
 replyOf a h t = record { answer = a; state = stateOf h t; calls = t .calls }
@@ -56,7 +56,7 @@ truthOf a h t = record { answer = a; state = stateOf h t; calls = t .calls }
 -- p, run on the region s and the script from step t, leaves the good image b and says: the answer, the state to keep, the item calls made, and
 -- the bytes for the output
 abbrev pub stands : State → ℕ → Step
-stands st n = record { at = st .at; cut = st .cut; calls = n }
+stands st n = record { at = st .at; cut = st .cut; calls = n; space = st .space }
 
 pub record Says {A : Type 0} (p : Prog Bytes (Said A)) (s script : Bytes) (t : Step) (b : Bytes) (a : A) (st : State) (n : ℕ) (out : Bytes) : Type 0 where
   pub fine : good b ≡ true

@@ -49,10 +49,12 @@ pub fn is_unclean(health: Health) -> bool
 pub fn begin(state: State) -> Step
     ensures { λ r. ⌜ r ≡ Public.begin state ⌝ }
 {
+    let space = state.space;
     Step {
         at: state.at,
         cut: state.cut,
         calls: 0,
+        space: space,
     }
 }
 
@@ -104,10 +106,12 @@ pub fn why(converged: Converged) -> Failure
 pub fn state_of(health: Health, step: Step) -> State
     ensures { λ r. ⌜ r ≡ stateOf health step ⌝ }
 {
+    let space = step.space;
     State {
         health: health,
         at: step.at,
         cut: step.cut,
+        space: space,
     }
 }
 

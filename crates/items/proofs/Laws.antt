@@ -4,17 +4,19 @@ use mathlib.Core.Bool.{Bool, true, false}
 use Prim.Native.Nat.{ℕ}
 use Rattle.definition.specs.Tools.{Bytes}
 use Rattle.definition.specs.Region.{Item, good, roomIn, storeIn, removeIn, look}
+use Rattle.definition.specs.Space.{spaceOf}
 use Rattle.definition.specs.Script.{fate, stepped}
-use Rattle.definition.specs.Program.{World, world, ok, bad, exec, ask, ran, done, flat, store, remove, fetch, step}
+use Rattle.definition.specs.Program.{World, world, ok, bad, exec, ask, change, keeping, ran, done, flat, store, remove, fetch, step}
 use Rattle.definition.proofs.Choices.{pick-no}
-use Rattle.definition.proofs.Running.{given, exec-ask}
+use Rattle.definition.proofs.Running.{given, exec-one}
+use Rattle.definition.specs.declared.Space.{Space}
 use Rattle.definition.specs.declared.Step.{Step}
 use Rattle.definition.specs.declared.Fault.{Fault}
 use Rattle.definition.specs.declared.Fault.the-variants.{FullStorage}
 use Rattle.definition.specs.declared.Verdict.{Verdict}
 use Rattle.definition.specs.declared.Verdict.the-variants.{Pass, Fail}
 use Rattle.region.specs.Places.{Visit, Fetched}
-use Rattle.region.specs.Changes.{Now, Stores}
+use Rattle.region.specs.Changes.{Now, Removes, Stores}
 use Rattle.region.proofs.Answers.{stored-done, stored-full}
 use Rattle.region.specs.declared.Stored.{Stored}
 use Rattle.region.specs.declared.Stored.the-variants as R
@@ -31,76 +33,91 @@ pub full-same : (i : Item) (s : Bytes) → roomIn i s ≡ false → storeIn i s 
 unfolding storeIn
 full-same i s e = pick-no _ _ e
 
+-- ---- a call that writes, by its fate
+
 module _ (f : Bytes → Bool) (g : Bytes → Bytes) (s script : Bytes) (t : Step) {v : Verdict} {n : Step} (ev : v ≡ fate script t) (en : n ≡ stepped script t) where
-  run-of : {A : Type 0} (a : Bytes → A) → exec (ask f g a) (world s script t) ≡ given a (done v (f s) (g s) s script n)
-  unfolding ran
-  run-of a = exec-ask f g a (world s script t) ∙ rw (ev, en)
+  change-of : exec (change flat f g) (world s script t) ≡ given (λ s. tt) (done v (f s) (g s) (λ m. spaceOf (g s)) s script n)
+  unfolding ran change
+  change-of = exec-one f g (λ s m. spaceOf s) (λ s. tt) (world s script t) ∙ rw (ev, en)
 
-  -- a fault without effect, or with an effect that changes nothing
-  run-failed : {A : Type 0} (a : Bytes → A) {x : Fault} (e : Bool) → g s ≡ s → v ≡ Fail x e → exec (ask f g a) (world s script t) ≡ bad x (world s script n)
+  -- the effect is done, and the numbers kept are those of what it left
+  module _ {b : Bytes} (o : Now b (g s)) {m : Space} (em : m ≡ spaceOf b) {u : Step} (eu : u ≡ keeping (λ x. m) n) where
+    left-is : world b script u ≡ world (g s) script (keeping (λ x. spaceOf (g s)) n)
+    left-is =
+        ap (λ (u : Step). world b script u) (eu ∙ ap (λ (m : Space). keeping (λ x. m) n) em)
+        ∙ ap (λ (b : Bytes). world b script (keeping (λ x. spaceOf b) n)) (o .is)
+
+    pub wrote : v ≡ Pass → f s ≡ true → Ran (change flat f g) s script t b (Done u)
+    unfolding given done
+    wrote p r = record { fine = o .fine; is = ap (λ (w : World Bytes). ok tt w) left-is ∙ sym (change-of ∙ rw (p, r)) }
+
+    pub failed-on : {x : Fault} {e : Bool} → v ≡ Fail x e → e ≡ true → f s ≡ true → Ran (change flat f g) s script t b (Failed x u)
+    unfolding given done
+    failed-on {x} p q r =
+        record {
+          fine = o .fine;
+          is = ap (λ (w : World Bytes). bad x w) left-is
+              ∙ sym (change-of ∙ ap (λ v. given (λ s. tt) (done v (f s) (g s) (λ m. spaceOf (g s)) s script n)) (p ∙ ap (Fail x) q) ∙ rw r);
+        }
+
+  -- there was no room
+  module _ {b : Bytes} (o : Now b s) (r : f s ≡ false) where
+    pub full : v ≡ Pass → Ran (change flat f g) s script t b (Failed FullStorage n)
+    unfolding given done
+    full p = record { fine = o .fine; is = ap (λ b. itemRun b script (Failed FullStorage n)) (o .is) ∙ sym (change-of ∙ rw (p, r)) }
+
+    pub failed-full : {x : Fault} {e : Bool} → v ≡ Fail x e → e ≡ true → Ran (change flat f g) s script t b (Failed x n)
+    unfolding given done
+    failed-full {x} p q =
+        record {
+          fine = o .fine;
+          is = ap (λ b. itemRun b script (Failed x n)) (o .is)
+              ∙ sym (change-of ∙ ap (λ v. given (λ s. tt) (done v (f s) (g s) (λ m. spaceOf (g s)) s script n)) (p ∙ ap (Fail x) q) ∙ rw r);
+        }
+
+  -- a fault without effect
+  pub failed : {x : Fault} {e : Bool} → v ≡ Fail x e → e ≡ false → good s ≡ true → Ran (change flat f g) s script t s (Failed x n)
   unfolding given done
-  run-failed a {x} e same p = run-of a ∙ ap (λ v. given a (done v (f s) (g s) s script n)) p ∙ go e (f s)
-    where
-      go : (e b : Bool) → given a (done (Fail x e) b (g s) s script n) ≡ bad x (world s script n)
-      go true true = ap (λ b. bad x (world b script n)) same
-      go true false = refl
-      go false b = refl
+  failed p r o = record { fine = o; is = sym (change-of ∙ rw (p, r)) }
 
-  pub wrote : {b : Bytes} → v ≡ Pass → f s ≡ true → Now b (g s) → Ran (ask f g (λ s. tt)) s script t b (Done n)
-  unfolding given done
-  wrote p r o = record { fine = o .fine; is = ap (λ b. itemRun b script (Done n)) (o .is) ∙ sym (run-of (λ s. tt) ∙ rw (p, r)) }
+-- ---- the two calls that write
 
-  pub full : {b : Bytes} → v ≡ Pass → f s ≡ false → Now b s → Ran (ask f g (λ s. tt)) s script t b (Failed FullStorage n)
-  unfolding given done
-  full p r o = record { fine = o .fine; is = ap (λ b. itemRun b script (Failed FullStorage n)) (o .is) ∙ sym (run-of (λ s. tt) ∙ rw (p, r)) }
-
-  pub failed : {x : Fault} {e : Bool} → v ≡ Fail x e → e ≡ false → good s ≡ true → Ran (ask f g (λ s. tt)) s script t s (Failed x n)
-  unfolding given done
-  failed p r o = record { fine = o; is = sym (run-of (λ s. tt) ∙ rw (p, r)) }
-
-  pub failed-on : {x : Fault} {e : Bool} {b : Bytes} → v ≡ Fail x e → e ≡ true → Now b (g s) → (f s ≡ false → g s ≡ s) → Ran (ask f g (λ s. tt)) s script t b (Failed x n)
-  unfolding given done
-  failed-on {x} {e} {b} p r o same =
-      record {
-        fine = o .fine;
-        is = ap (λ b. itemRun b script (Failed x n)) (o .is)
-            ∙ sym (run-of (λ s. tt) ∙ ap (λ v. given (λ s. tt) (done v (f s) (g s) s script n)) (p ∙ ap (Fail x) r) ∙ go (f s) same);
-      }
-    where
-      go : (r : Bool) → (r ≡ false → g s ≡ s) → given (λ s. tt {0}) (done (Fail x true) r (g s) s script n) ≡ bad x (world (g s) script n)
-      go true h = refl
-      go false h = ap (λ b. bad x (world b script n)) (sym (h refl))
-
--- ---- the two calls that write, by their fate
+same-now : {i : Item} {s b : Bytes} {a : Stored} → Stores i s b a → a ≡ R.Full → Now b s
+same-now {i} {s} h e = record { fine = h .now .fine; is = h .now .is ∙ full-same i s (stored-full h e) }
 
 module _ (i : Item) {s script : Bytes} {t : Step} {v : Verdict} {n : Step} (ev : v ≡ fate script t) (en : n ≡ stepped script t) where
   module _ {b : Bytes} {a : Stored} (h : Stores i s b a) where
-    pub store-done : v ≡ Pass → a ≡ R.Done → Ran (store flat i) s script t b (Done n)
-    unfolding store
-    store-done p e = wrote (roomIn i) (storeIn i) s script t ev en p (stored-done h e) (h .now)
+    module _ {m : Space} (e : a ≡ R.Done m) {u : Step} (eu : u ≡ keeping (λ x. m) n) where
+      pub store-done : v ≡ Pass → Ran (store flat i) s script t b (Done u)
+      unfolding store
+      store-done p = wrote (roomIn i) (storeIn i) s script t ev en (h .now) (stored-done h e .1) eu p (stored-done h e .0)
 
-    pub store-full : v ≡ Pass → a ≡ R.Full → Ran (store flat i) s script t b (Failed FullStorage n)
-    unfolding store
-    store-full p e =
-        let r : roomIn i s ≡ false = stored-full h e in
-        full (roomIn i) (storeIn i) s script t ev en p r (record { fine = h .now .fine; is = h .now .is ∙ full-same i s r })
+      pub store-failed-on : {x : Fault} {y : Bool} → v ≡ Fail x y → y ≡ true → Ran (store flat i) s script t b (Failed x u)
+      unfolding store
+      store-failed-on p y = failed-on (roomIn i) (storeIn i) s script t ev en (h .now) (stored-done h e .1) eu p y (stored-done h e .0)
 
-    pub store-failed-on : {x : Fault} {e : Bool} → v ≡ Fail x e → e ≡ true → Ran (store flat i) s script t b (Failed x n)
-    unfolding store
-    store-failed-on p e = failed-on (roomIn i) (storeIn i) s script t ev en p e (h .now) (full-same i s)
+    module _ (e : a ≡ R.Full) where
+      pub store-full : v ≡ Pass → Ran (store flat i) s script t b (Failed FullStorage n)
+      unfolding store
+      store-full p = full (roomIn i) (storeIn i) s script t ev en (same-now h e) (stored-full h e) p
+
+      pub store-failed-full : {x : Fault} {y : Bool} → v ≡ Fail x y → y ≡ true → Ran (store flat i) s script t b (Failed x n)
+      unfolding store
+      store-failed-full p y = failed-full (roomIn i) (storeIn i) s script t ev en (same-now h e) (stored-full h e) p y
 
   pub store-failed : {x : Fault} {e : Bool} → v ≡ Fail x e → e ≡ false → good s ≡ true → Ran (store flat i) s script t s (Failed x n)
   unfolding store
   store-failed p e g = failed (roomIn i) (storeIn i) s script t ev en p e g
 
 module _ (k : Bytes) {s script : Bytes} {t : Step} {v : Verdict} {n : Step} (ev : v ≡ fate script t) (en : n ≡ stepped script t) where
-  pub remove-done : {b : Bytes} → Now b (removeIn k s) → v ≡ Pass → Ran (remove flat k) s script t b (Done n)
-  unfolding remove
-  remove-done h p = wrote (λ s. true) (removeIn k) s script t ev en p refl h
+  module _ {b : Bytes} {m : Space} (h : Removes k s b m) {u : Step} (eu : u ≡ keeping (λ x. m) n) where
+    pub remove-done : v ≡ Pass → Ran (remove flat k) s script t b (Done u)
+    unfolding remove
+    remove-done p = wrote (λ s. true) (removeIn k) s script t ev en (h .now) (h .space) eu p refl
 
-  pub remove-failed-on : {b : Bytes} {x : Fault} {e : Bool} → Now b (removeIn k s) → v ≡ Fail x e → e ≡ true → Ran (remove flat k) s script t b (Failed x n)
-  unfolding remove
-  remove-failed-on h p e = failed-on (λ s. true) (removeIn k) s script t ev en p e h (λ z. cc)
+    pub remove-failed-on : {x : Fault} {e : Bool} → v ≡ Fail x e → e ≡ true → Ran (remove flat k) s script t b (Failed x u)
+    unfolding remove
+    remove-failed-on p e = failed-on (λ s. true) (removeIn k) s script t ev en (h .now) (h .space) eu p e refl
 
   pub remove-failed : {x : Fault} {e : Bool} → v ≡ Fail x e → e ≡ false → good s ≡ true → Ran (remove flat k) s script t s (Failed x n)
   unfolding remove
@@ -109,45 +126,51 @@ module _ (k : Bytes) {s script : Bytes} {t : Step} {v : Verdict} {n : Step} (ev 
 -- ---- reads: their fate alone decides
 
 module _ (s script : Bytes) (t : Step) {v : Verdict} {n : Step} (ev : v ≡ fate script t) (en : n ≡ stepped script t) where
-  abbrev always : Bytes → Bool
-  always s = true
+  read-of : {A : Type 0} (a : Bytes → A) → exec (ask a) (world s script t) ≡ given a (done v true s (λ m. m) s script n)
+  unfolding ran ask
+  read-of a = exec-one (λ s. true) (λ s. s) (λ s m. m) a (world s script t) ∙ rw (ev, en)
 
-  abbrev same : Bytes → Bytes
-  same s = s
+  read-failed : {A : Type 0} (a : Bytes → A) {x : Fault} (e : Bool) → v ≡ Fail x e → exec (ask a) (world s script t) ≡ bad x (world s script n)
+  unfolding given done
+  read-failed a {x} e p = read-of a ∙ ap (λ v. given a (done v true s (λ m. m) s script n)) p ∙ go e
+    where
+      go : (e : Bool) → given a (done (Fail x e) true s (λ m. m) s script n) ≡ bad x (world s script n)
+      go true = refl
+      go false = refl
 
   pub fetch-missed : (k : Bytes) {x : Fault} {e : Bool} → v ≡ Fail x e → Fetches k s script t (Missed x n)
   unfolding fetch
-  fetch-missed k {x} {e} p = record { inside = tt; is = sym (run-failed always same s script t ev en (look k) e refl p) }
+  fetch-missed k {x} {e} p = record { inside = tt; is = sym (read-failed (look k) e p) }
 
   pub fetch-got : (k : Bytes) {x : Spot} → v ≡ Pass → Fetched s k x → Fetches k s script t (Got x n)
   unfolding fetch given done
-  fetch-got k {x} p h =
-      record { inside = h .inside; is = ap (λ o. ok o (world s script n)) (h .is) ∙ sym (run-of always same s script t ev en (look k) ∙ rw p) }
+  fetch-got k {x} p h = record { inside = h .inside; is = ap (λ o. ok o (world s script n)) (h .is) ∙ sym (read-of (look k) ∙ rw p) }
 
   pub step-done : v ≡ Pass → good s ≡ true → Ran (step flat) s script t s (Done n)
   unfolding step given done
-  step-done p g = record { fine = g; is = sym (run-of always same s script t ev en (λ s. tt) ∙ rw p) }
+  step-done p g = record { fine = g; is = sym (read-of (λ s. tt) ∙ rw p) }
 
   pub step-failed : {x : Fault} {e : Bool} → v ≡ Fail x e → good s ≡ true → Ran (step flat) s script t s (Failed x n)
   unfolding step
-  step-failed {x} {e} p g = record { fine = g; is = sym (run-failed always same s script t ev en (λ s. tt) e refl p) }
+  step-failed {x} {e} p g = record { fine = g; is = sym (read-failed (λ s. tt) e p) }
 
   pub next-met : {at : ℕ} {x : Next} → v ≡ Pass → Visit s at x → Visits s script at t (Met x n)
   unfolding step given done
-  next-met p h = record { met = h; is = sym (run-of always same s script t ev en (λ s. tt) ∙ rw p) }
+  next-met p h = record { met = h; is = sym (read-of (λ s. tt) ∙ rw p) }
 
   pub next-unmet : {at : ℕ} {x : Fault} {e : Bool} → v ≡ Fail x e → Visits s script at t (Unmet x n)
   unfolding step
-  next-unmet {at} {x} {e} p = record { met = tt; is = sym (run-failed always same s script t ev en (λ s. tt) e refl p) }
+  next-unmet {at} {x} {e} p = record { met = tt; is = sym (read-failed (λ s. tt) e p) }
 
 -- ---- what a removal that is done has done
 
 pub removed-is : (k : Bytes) {s script b : Bytes} {t t1 : Step} {r : ItemAnswer} → Ran (remove flat k) s script t b r → r ≡ Done t1 → b ≡ removeIn k s
-unfolding remove ran given done
+unfolding remove given done
 removed-is k {s} {script} {b} {t} {t1} {r} h e =
-    go (fate script t) (sym (exec-ask (λ s. true) (removeIn k) (λ s. tt) (world s script t)) ∙ sym (h .is) ∙ ap (itemRun b script) e)
+    go (fate script t) (sym (change-of (λ s. true) (removeIn k) s script t refl refl) ∙ sym (h .is) ∙ ap (itemRun b script) e)
   where
-    go : (v : Verdict) → given (λ s. tt {0}) (done v true (removeIn k s) s script (stepped script t)) ≡ ok tt (world b script t1) → b ≡ removeIn k s
-    go Pass p = let q : world b script t1 ≡ world (removeIn k s) script (stepped script t) = cc in ap (λ (w : World Bytes). w .region) q
+    go : (v : Verdict) → given (λ s. tt {0}) (done v true (removeIn k s) (λ m. spaceOf (removeIn k s)) s script (stepped script t)) ≡ ok tt (world b script t1)
+        → b ≡ removeIn k s
+    go Pass p = let q : world b script t1 ≡ world (removeIn k s) script (keeping (λ m. spaceOf (removeIn k s)) (stepped script t)) = cc in ap (λ (w : World Bytes). w .region) q
     go (Fail x true) p = cc
     go (Fail x false) p = cc

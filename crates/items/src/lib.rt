@@ -1,6 +1,7 @@
 // The item calls of document 01: the fault script over the region. Each spends one step of the script, and is equal to the run of its one-call
 // program in `definition/specs/Program`.
 use definition::Fault;
+use definition::Space;
 use definition::Step;
 use definition::Verdict;
 use region::Next;
@@ -38,6 +39,18 @@ pub struct Failure {
     pub step: Step,
 }
 
+// Where a call stands with these numbers kept.
+fn keeping(space: Space, step: Step) -> Step
+    ensures { λ r. ⌜ r ≡ Program.keeping (λ n. space) step ⌝ }
+{
+    Step {
+        at: step.at,
+        cut: step.cut,
+        calls: step.calls,
+        space: space,
+    }
+}
+
 // Stores an item. Where the call fails with its effect, the effect is done where it fits.
 pub fn store(region: &mut [u8], script: &[u8], key: &[u8], value: &[u8], step: Step) -> ItemAnswer
     requires { ⌜ good (now region) ≡ true ⌝ }
@@ -48,14 +61,17 @@ pub fn store(region: &mut [u8], script: &[u8], key: &[u8], value: &[u8], step: S
     let verdict = script::fate(script, step);
     let Verdict::Fail(fault, lands) = verdict else {
         let stored = region::store(region, key, value);
-        let Stored::Done = stored else {
+        let Stored::Done(space) = stored else {
             return ItemAnswer::Failed(Fault::FullStorage, next);
         };
-        return ItemAnswer::Done(next);
+        return ItemAnswer::Done(keeping(space, next));
     };
     if lands {
-        region::store(region, key, value);
-        return ItemAnswer::Failed(fault, next);
+        let stored = region::store(region, key, value);
+        let Stored::Done(space) = stored else {
+            return ItemAnswer::Failed(fault, next);
+        };
+        return ItemAnswer::Failed(fault, keeping(space, next));
     }
     ItemAnswer::Failed(fault, next)
 }
@@ -68,12 +84,12 @@ pub fn remove(region: &mut [u8], script: &[u8], key: &[u8], step: Step) -> ItemA
     let next = script::stepped(script, step);
     let verdict = script::fate(script, step);
     let Verdict::Fail(fault, effect) = verdict else {
-        region::remove(region, key);
-        return ItemAnswer::Done(next);
+        let space = region::remove(region, key);
+        return ItemAnswer::Done(keeping(space, next));
     };
     if effect {
-        region::remove(region, key);
-        return ItemAnswer::Failed(fault, next);
+        let space = region::remove(region, key);
+        return ItemAnswer::Failed(fault, keeping(space, next));
     }
     ItemAnswer::Failed(fault, next)
 }

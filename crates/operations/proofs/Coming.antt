@@ -46,7 +46,7 @@ module _ {r : Run} {s script : Bytes} {t : Step} where
   comes-ret c = c .is
 
   pub comes-says : {p : Prog Bytes (Said Answer)} {b : Bytes} {a : Answer} {st : State} {n : ℕ} → Comes r p s script t → Says p s script t b a st n []
-      → ok (said a (st .health) []) (world b script (record { at = st .at; cut = st .cut; calls = n })) ≡ r
+      → ok (said a (st .health) []) (world b script (record { at = st .at; cut = st .cut; calls = n; space = st .space })) ≡ r
   comes-says c y = y .is ∙ c .is
 
   module _ {A : Type 0} {p : Prog Bytes A} {b : Bytes} {t1 : Step} (k : A → Prog Bytes (Said Answer)) (h : Fault → Prog Bytes (Said Answer)) where

@@ -82,10 +82,12 @@ fn replied(count: usize, reply: Reply) -> Work
     let answer = reply.answer;
     let state = reply.state;
     let health = state.health;
+    let space = state.space;
     let step = Step {
         at: state.at,
         cut: state.cut,
         calls: reply.calls,
+        space: space,
     };
     over(count, answer, health, step)
 }

@@ -1,5 +1,6 @@
 // Runs item-level cases. Each line is a region, a script, a look at the region or an item call; the answers are lines too. Bytes stand in hex,
 // and `-` stands for none.
+use definition::Space;
 use definition::Step;
 use items::FetchAnswer;
 use items::ItemAnswer;
@@ -64,11 +65,7 @@ impl Run {
     // A case that starts: nothing is called yet, and nothing is cut.
     fn new(waiting: usize) -> Self {
         Run {
-            step: Step {
-                at: 0,
-                cut: false,
-                calls: 0,
-            },
+            step: first_step(),
             place: 0,
             waiting: waiting,
         }
@@ -85,6 +82,21 @@ impl Run {
             place: place,
             waiting: self.waiting,
         }
+    }
+}
+
+// Where a case's item calls start. What its region holds is asked of the region; the numbers kept are not looked at here.
+fn first_step() -> Step {
+    let space = Space {
+        used: 0,
+        free: 0,
+        takes: 0,
+    };
+    Step {
+        at: 0,
+        cut: false,
+        calls: 0,
+        space: space,
     }
 }
 
@@ -274,11 +286,7 @@ fn set_script(script: &mut [u8], out: &mut [u8], given: &[u8], bench: Bench) -> 
     }
     slices::copy_in(script, 0, &bytes[..count]);
     let run = bench.run;
-    let started = Step {
-        at: 0,
-        cut: false,
-        calls: 0,
-    };
+    let started = first_step();
     Bench {
         region: bench.region,
         script: count,

@@ -10,7 +10,7 @@ use Rattle.definition.specs.Codec.{laid}
 use Rattle.definition.specs.Program.{Prog, World, world, Result, exec, flat}
 use Rattle.definition.specs.Calls.{Said}
 use Rattle.definition.specs.Scan.{rising}
-use Rattle.definition.specs.Public.{Outcome, outcome, state, begin, outcomeOf, public}
+use Rattle.definition.specs.Public.{Outcome, outcome, after, begin, outcomeOf, public}
 use Rattle.definition.specs.declared.State.{State}
 use Rattle.definition.specs.declared.Fault.{Fault}
 use Rattle.definition.specs.declared.Health.{Health}
@@ -61,7 +61,7 @@ module _ {X : Type 0} (refuse : Fault → X) {Q : Said X → Bytes → Type 0} (
   pub on-public : (p : Prog Bytes (Said X)) (region script : Bytes) (st : State) (output : Bytes) → good region ≡ true
       → Ends Q Never (exec p (world region script (begin st)))
       → ((r : Said X) (w : World Bytes) → Q r (w .region)
-      → G (outcome (r .answer) (state (r .health) (w .step .at) (w .step .cut)) (w .step .calls) (w .region) (laid (r .wrote) output)))
+      → G (outcome (r .answer) (after (r .health) (w .step)) (w .step .calls) (w .region) (laid (r .wrote) output)))
       → G (public refuse p region script st output)
   unfolding public outcomeOf pick
   on-public p region script st output g e f = rw g (go (exec p (world region script (begin st))) e)

@@ -1,13 +1,14 @@
 -- The promise speaks of something: a run with a lying store, an uncertain commit, a power cut and a remount, computed from the definition.
 use mathlib.Core.Path.{_≡_, refl, ap}
-use mathlib.Core.Bool.{true, false}
+use mathlib.Core.Bool.{Bool, true, false}
 use mathlib.Core.List.{List, [], _∷_}
 use mathlib.Core.Option.{Option, none, some}
-use Prim.Native.Nat.{ℕ}
+use Prim.Native.Nat.{ℕ, _-_}
 use lib.ListN.{replicate}
 use Rattle.definition.specs.Tools.{Bytes}
 use Rattle.definition.specs.Region.{Item, item, fetched, render, look}
 use Rattle.definition.specs.Public.{state}
+use Rattle.definition.specs.declared.Space.{Space}
 use Rattle.definition.specs.declared.State.{State}
 use Rattle.definition.specs.declared.Fault.the-variants.{Driver, CommitUncertain}
 use Rattle.definition.specs.declared.DriverKind.the-variants.{Other}
@@ -73,17 +74,27 @@ kept = promise erasedStore start run
 
 -- ---- what it is, call by call
 
+-- a store that holds so much, in 8192 bytes: Clean; Pending, with the batch's journal and marker, and maybe cut
+abbrev holding : ℕ → ℕ → Space
+holding used takes = record { used = used; free = 8192 - used; takes = takes }
+
+abbrev empty : Option State
+empty = some (state Clean 0 false (holding 0 0))
+
 abbrev clean : ℕ → Option State
-clean at = some (state Clean at false)
+clean at = some (state Clean at false (holding 11 1))
+
+abbrev pending : ℕ → Bool → Option State
+pending at cut = some (state Pending at cut (holding 59 1))
 
 abbrev failed : Answer
 failed = Refused (Driver Other)
 
-turn1 : turn (mount 0 0) erasedStore ≡ hears (answered Ok) (moment [] [] (clean 0))
+turn1 : turn (mount 0 0) erasedStore ≡ hears (answered Ok) (moment [] [] empty)
 unfolding computes turn made batched mounting stateAfter
 turn1 = refl
 
-turn2 : turn (put a (0x31 ∷ [])) (moment [] [] (clean 0)) ≡ hears (answered Ok) (moment (holds 0x31 ∷ []) [] (clean 0))
+turn2 : turn (put a (0x31 ∷ [])) (moment [] [] empty) ≡ hears (answered Ok) (moment (holds 0x31 ∷ []) [] (clean 0))
 unfolding computes turn made batched mounting stateAfter
 turn2 = refl
 
@@ -106,22 +117,22 @@ turn6 = refl
 
 -- 16: this one is in too, as the remount will show
 turn7 : turn (applyBatch (fromList list)) (moment (holds 0x32 ∷ []) cutting (clean 0))
-    ≡ hears (answered (Refused CommitUncertain)) (moment committed cutting (some (state Pending 4 false)))
+    ≡ hears (answered (Refused CommitUncertain)) (moment committed cutting (pending 4 false))
 unfolding computes turn made batched mounting stateAfter
 turn7 = refl
 
 -- the power goes while it recovers
-turn8 : turn (get a (0 ∷ [])) (moment committed cutting (some (state Pending 4 false)))
-    ≡ hears (got (Get.Refused (Driver Other)) (0 ∷ [])) (moment committed cutting (some (state Pending 6 true)))
+turn8 : turn (get a (0 ∷ [])) (moment committed cutting (pending 4 false))
+    ≡ hears (got (Get.Refused (Driver Other)) (0 ∷ [])) (moment committed cutting (pending 6 true))
 unfolding computes turn made batched mounting stateAfter
 turn8 = refl
 
-turn9 : turn (contains a) (moment committed cutting (some (state Pending 6 true)))
-    ≡ hears (told (Truth.Refused (Driver Other))) (moment committed cutting (some (state Pending 6 true)))
+turn9 : turn (contains a) (moment committed cutting (pending 6 true))
+    ≡ hears (told (Truth.Refused (Driver Other))) (moment committed cutting (pending 6 true))
 unfolding computes turn made batched mounting stateAfter
 turn9 = refl
 
-turn10 : turn (mount 0 6) (moment committed cutting (some (state Pending 6 true))) ≡ hears (answered Ok) (moment (holds 0x33 ∷ []) cutting (clean 6))
+turn10 : turn (mount 0 6) (moment committed cutting (pending 6 true)) ≡ hears (answered Ok) (moment (holds 0x33 ∷ []) cutting (clean 6))
 unfolding computes turn made batched mounting stateAfter
 turn10 = refl
 

@@ -14,7 +14,7 @@ use Rattle.definition.specs.Program.{Prog, World, world, exec, flat}
 use Rattle.definition.specs.Calls.{Said, batchOf, regionFault}
 use Rattle.definition.specs.Calls as Calls
 use Rattle.definition.specs.Scan.{rising, beyond}
-use Rattle.definition.specs.Public.{Outcome, outcome, state, begin, public}
+use Rattle.definition.specs.Public.{Outcome, outcome, unmounted, begin, public}
 use Rattle.definition.specs.Public as Public
 use Rattle.definition.specs.declared.State.{State}
 use Rattle.definition.specs.declared.Step as Declared
@@ -91,7 +91,7 @@ any-script script t u = (script-obeys script t, tt)
 
 runs : {X : Type 0} {Q : Said X → Bytes → Type 0} {p : Prog Bytes (Said X)} (region script : Bytes) (st : State) → Ensures ItemFault Q Never p region
     → Ends Q Never (exec p (world region script (begin st)))
-runs region script st e = exec-ensures ItemFault (λ s t. Unit {0}) any-script e (world region script (begin st)) tt refl
+runs region script st e = exec-ensures ItemFault (λ s t. Unit {0}) any-script (λ s t n u. tt) e (world region script (begin st)) tt refl
 
 module _ (len : ℕ) where
   -- what a call comes to: a step of the plain map, what its output shows of it, and a region that stands for the map after it
@@ -179,7 +179,7 @@ module _ (len : ℕ) where
     call : {X : Type 0} {Q : Said X → Bytes → Type 0} {c : Call} (refuse : Fault → X) (hear : Outcome X → Heard) {p : Prog Bytes (Said X)} (output : Bytes)
         → Ensures ItemFault Q Never p region
         → ((r : Said X) (w : World Bytes) → Q r (w .region)
-        → Done A c (hear (outcome (r .answer) (state (r .health) (w .step .at) (w .step .cut)) (w .step .calls) (w .region) (laid (r .wrote) output)))
+        → Done A c (hear (outcome (r .answer) (Public.after (r .health) (w .step)) (w .step .calls) (w .region) (laid (r .wrote) output)))
         (r .health) (w .region))
         → let r = public refuse p region script st output in Done A c (hear r) (r .state .health) (r .region)
     call {c = c} refuse hear output e f =
@@ -244,8 +244,8 @@ module _ (len : ℕ) where
     step : P.Step A (mount start at) (answered (r .answer)) A
     holds : Holds len (stateAfter (r .answer) (r .state)) A (r .region)
 
-  mount-says : {A : Plain} {start at place : ℕ} {cut : Bool} {calls : ℕ} {r : Said Answer} {s output : Bytes}
-      → Answers.MountSays flat flat-laws base len ItemFault A r s → Mounted A start at (outcome (r .answer) (state (r .health) place cut) calls s output)
+  mount-says : {A : Plain} {start at : ℕ} {t : Declared.Step} {r : Said Answer} {s output : Bytes}
+      → Answers.MountSays flat flat-laws base len ItemFault A r s → Mounted A start at (outcome (r .answer) (Public.after (r .health) t) (t .calls) s output)
   unfolding stateAfter refusalOf refusal
   mount-says (Answers.mount-done m) = record { step = P.ok P.mounted; holds = m }
   mount-says (Answers.mount-failed c m) = record { step = out-of refl (item-outright _ (caused-item _ c)); holds = m }
@@ -254,8 +254,8 @@ module _ (len : ℕ) where
   unfolding Public.mount stateAfter refusalOf refusal
   mount-call A region script start at m =
       opt-to (Mounted A start at) (regionFault start (length region))
-      (λ e. on-public Refused (Mounted A start at) (Calls.mount flat) region script (state Pending at false) [] (image-good len m)
-      (runs region script (state Pending at false) (Answers.mount-ensures flat flat-laws base len ItemFault region m)) (λ r w q. mount-says q))
+      (λ e. on-public Refused (Mounted A start at) (Calls.mount flat) region script (unmounted region at) [] (image-good len m)
+      (runs region script (unmounted region at) (Answers.mount-ensures flat flat-laws base len ItemFault region m)) (λ r w q. mount-says q))
       (λ f e. record { step = out-of refl (region-outright _ _ f e); holds = m })
 
   -- ---- a turn

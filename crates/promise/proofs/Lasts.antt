@@ -14,7 +14,7 @@ use Rattle.definition.specs.Script.{byteFate, fate, stepped}
 use Rattle.definition.specs.Program.{Prog, world, exec, flat}
 use Rattle.definition.specs.Calls.{Said, regionFault}
 use Rattle.definition.specs.Calls as Calls
-use Rattle.definition.specs.Public.{outcome, state, begin}
+use Rattle.definition.specs.Public.{outcome, unmounted, begin}
 use Rattle.definition.specs.Public as Public
 use Rattle.definition.specs.declared.State.{State}
 use Rattle.definition.specs.declared.Step.{Step}
@@ -71,7 +71,7 @@ quiet script t q = (subst (Obeys NoFault) (sym (quiet-fate script t q)) tt, quie
 
 quiet-runs : {X : Type 0} {Q : Said X → Bytes → Type 0} {p : Prog Bytes (Said X)} (region script : Bytes) (st : State) → st .cut ≡ false → Calm script (st .at)
     → Ensures NoFault Q Never p region → Ends Q Never (exec p (world region script (begin st)))
-quiet-runs region script st u c e = exec-ensures NoFault Quiet quiet e (world region script (begin st)) (record { uncut = u; calm = c }) refl
+quiet-runs region script st u c e = exec-ensures NoFault Quiet quiet (λ script t n q. record { uncut = q .uncut; calm = q .calm }) e (world region script (begin st)) (record { uncut = u; calm = c }) refl
 
 module _ (len : ℕ) where
   contains-responds : {A : Plain} {key : Bytes} {r : Said TruthAnswer} {s : Bytes} → Answers.ContainsSays flat flat-laws base len NoFault A key r s
@@ -98,10 +98,10 @@ module _ (len : ℕ) where
       → Responds (answered (Public.mount region script start at .answer))
   unfolding Public.mount
   mount-lasts A region script start at m e c =
-      rw (opt-none (Public.public Refused (Calls.mount flat) region script (state H.Pending at false) [])
-      (λ f. outcome (Refused f) (state H.Pending at false) 0 region []) e)
-      (on-public Refused (λ r. Responds (answered (r .answer))) (Calls.mount flat) region script (state H.Pending at false) [] (image-good len m)
-      (quiet-runs region script (state H.Pending at false) refl c (Answers.mount-ensures flat flat-laws base len NoFault region m)) (λ r w q. mount-responds q))
+      rw (opt-none (Public.public Refused (Calls.mount flat) region script (unmounted region at) [])
+      (λ f. outcome (Refused f) (unmounted region at) 0 region []) e)
+      (on-public Refused (λ r. Responds (answered (r .answer))) (Calls.mount flat) region script (unmounted region at) [] (image-good len m)
+      (quiet-runs region script (unmounted region at) refl c (Answers.mount-ensures flat flat-laws base len NoFault region m)) (λ r w q. mount-responds q))
 
   -- at any moment under whose newest state the items stand for some map
   module _ (m : Moment) (A : Plain) (h : Holds len (m .newest) A (m .region)) where

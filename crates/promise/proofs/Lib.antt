@@ -6,3 +6,4 @@ pub mod Lasts
 pub mod Listed
 pub mod Example
 pub mod Needed
+pub mod Displayed

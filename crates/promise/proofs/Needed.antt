@@ -10,8 +10,10 @@ use Rattle.definition.specs.Tools.{Bytes}
 use Rattle.definition.specs.Region.{Item, item, render, look}
 use Rattle.definition.specs.Codec.{laid, markerKey}
 use Rattle.definition.specs.Numbers.{getRefusal}
+use Rattle.definition.specs.Space.{spaceOf}
 use Rattle.definition.specs.Public.{outcome, state}
 use Rattle.definition.specs.Public as Public
+use Rattle.definition.specs.declared.Space.{Space}
 use Rattle.definition.specs.declared.Fault.the-variants.{JournalCorrupted, BatchCommitted, CommitUncertain, FullStorage}
 use Rattle.definition.specs.declared.JournalPart.the-variants.{MarkerCount}
 use Rattle.definition.specs.declared.Health.the-variants.{Clean, Pending}
@@ -29,6 +31,10 @@ use Rattle.promise.proofs.Example.{a, holds}
 abbrev image : List Item → Bytes
 image = render 8192
 
+-- the numbers kept on such an image
+abbrev on : List Item → Space
+on is = spaceOf (image is)
+
 abbrev markerOf : Bytes → Item
 markerOf v = item (0 ∷ 0x63 ∷ []) v
 
@@ -45,8 +51,8 @@ deletes = 0x0a ∷ 0 ∷ 0 ∷ 0 ∷ 2 ∷ 0 ∷ 0 ∷ 0 ∷ 1 ∷ 0x61 ∷ 0x0a
 abbrev late : Bytes
 late = 0 ∷ 0 ∷ 0 ∷ 0 ∷ 0 ∷ 0 ∷ 0 ∷ 3 ∷ 3 ∷ []
 
-shorter-before : Public.applyBatch (image []) late (state Clean 0 false) deletes
-    ≡ outcome (Refused BatchCommitted) (state Pending 9 false) 9 (image (two ∷ [])) []
+shorter-before : Public.applyBatch (image []) late (state Clean 0 false (on [])) deletes
+    ≡ outcome (Refused BatchCommitted) (state Pending 9 false (on (two ∷ []))) 9 (image (two ∷ [])) []
 unfolding computes
 shorter-before = refl
 
@@ -54,8 +60,8 @@ shorter-cut : take 16 (image (two ∷ [])) ≡ render 16 (two ∷ [])
 unfolding computes
 shorter-cut = refl
 
-shorter : Public.contains (render 16 (two ∷ [])) late (state Pending 9 false) a
-    ≡ outcome (Truth.Refused (JournalCorrupted (MarkerCount 2))) (state Pending 9 false) 1 (render 16 (two ∷ [])) []
+shorter : Public.contains (render 16 (two ∷ [])) late (state Pending 9 false (on (two ∷ []))) a
+    ≡ outcome (Truth.Refused (JournalCorrupted (MarkerCount 2))) (state Pending 9 false (on (two ∷ []))) 1 (render 16 (two ∷ [])) []
 unfolding computes
 shorter = refl
 
@@ -71,21 +77,21 @@ one = holds 0x31 ∷ item (0 ∷ 0x6a ∷ 0 ∷ 0 ∷ []) (0 ∷ 1 ∷ 0x61 ∷ 
 abbrev unread : Bytes
 unread = 0 ∷ 0x83 ∷ 3 ∷ []
 
-older-before : Public.applyBatch (image (holds 0x31 ∷ [])) unread (state Clean 0 false) list
-    ≡ outcome (Refused CommitUncertain) (state Pending 3 false) 3 (image one) []
+older-before : Public.applyBatch (image (holds 0x31 ∷ [])) unread (state Clean 0 false (on (holds 0x31 ∷ []))) list
+    ≡ outcome (Refused CommitUncertain) (state Pending 3 false (on one)) 3 (image one) []
 unfolding computes
 older-before = refl
 
-older : Public.get (image one) [] (state Clean 0 false) a (0 ∷ []) ≡ outcome (Get.Found 1) (state Clean 0 false) 1 (image one) (0x31 ∷ [])
+older : Public.get (image one) [] (state Clean 0 false (on one)) a (0 ∷ []) ≡ outcome (Get.Found 1) (state Clean 0 false (on one)) 1 (image one) (0x31 ∷ [])
 unfolding computes
 older = refl
 
-older-mount : Public.mount (image one) [] 0 0 ≡ outcome Ok (state Clean 0 false) 5 (image (holds 0x33 ∷ [])) []
+older-mount : Public.mount (image one) [] 0 0 ≡ outcome Ok (state Clean 0 false (on (holds 0x33 ∷ []))) 5 (image (holds 0x33 ∷ [])) []
 unfolding computes
 older-mount = refl
 
-older-after : Public.get (image (holds 0x33 ∷ [])) [] (state Clean 0 false) a (0 ∷ [])
-    ≡ outcome (Get.Found 1) (state Clean 0 false) 1 (image (holds 0x33 ∷ [])) (0x33 ∷ [])
+older-after : Public.get (image (holds 0x33 ∷ [])) [] (state Clean 0 false (on (holds 0x33 ∷ []))) a (0 ∷ [])
+    ≡ outcome (Get.Found 1) (state Clean 0 false (on (holds 0x33 ∷ []))) 1 (image (holds 0x33 ∷ [])) (0x33 ∷ [])
 unfolding computes
 older-after = refl
 
@@ -135,7 +141,7 @@ foreign-start : look markerKey (image foreign) ≡ some (2 ∷ 0x58 ∷ 0xfd ∷
 unfolding computes
 foreign-start = refl
 
-foreign-marker : Public.mount (image foreign) [] 0 0 ≡ outcome (Refused (JournalCorrupted (MarkerCount 600))) (state Pending 0 false) 1 (image foreign) []
+foreign-marker : Public.mount (image foreign) [] 0 0 ≡ outcome (Refused (JournalCorrupted (MarkerCount 600))) (state Pending 0 false (on foreign)) 1 (image foreign) []
 unfolding computes
 foreign-marker = refl
 
@@ -153,14 +159,14 @@ filled =
 abbrev stuck : List Item
 stuck = filled ++ (item (0 ∷ 0x6a ∷ 0 ∷ 0 ∷ []) (0 ∷ 1 ∷ 0x61 ∷ 0x33 ∷ []) ∷ markerOf (0 ∷ 1 ∷ 0xff ∷ 0xfe ∷ []) ∷ [])
 
-full-batch : Public.applyBatch (image filled) [] (state Clean 0 false) list ≡ outcome (Refused BatchCommitted) (state Pending 0 false) 6 (image stuck) []
+full-batch : Public.applyBatch (image filled) [] (state Clean 0 false (on filled)) list ≡ outcome (Refused BatchCommitted) (state Pending 0 false (on stuck)) 6 (image stuck) []
 unfolding computes
 full-batch = refl
 
-full-contains : Public.contains (image stuck) [] (state Pending 0 false) a ≡ outcome (Truth.Refused FullStorage) (state Pending 0 false) 3 (image stuck) []
+full-contains : Public.contains (image stuck) [] (state Pending 0 false (on stuck)) a ≡ outcome (Truth.Refused FullStorage) (state Pending 0 false (on stuck)) 3 (image stuck) []
 unfolding computes
 full-contains = refl
 
-full-mount : Public.mount (image stuck) [] 0 0 ≡ outcome (Refused FullStorage) (state Pending 0 false) 3 (image stuck) []
+full-mount : Public.mount (image stuck) [] 0 0 ≡ outcome (Refused FullStorage) (state Pending 0 false (on stuck)) 3 (image stuck) []
 unfolding computes
 full-mount = refl

@@ -1,3 +1,4 @@
 pub mod Run
 pub mod Promise
 pub mod Beside
+pub mod Display

@@ -96,7 +96,7 @@ mounting m r =
 
 unfoldable pub turn : Call → Moment → Turn
 turn (rescript script at) m =
-    record { heard = nothing; next = record { region = m .region; script = script; newest = Option·map (λ st. state (st .health) at (st .cut)) (m .newest) } }
+    record { heard = nothing; next = record { region = m .region; script = script; newest = Option·map (λ st. state (st .health) at (st .cut) (st .space)) (m .newest) } }
 turn (mount start at) m = mounting m (Public.mount (m .region) (m .script) start at)
 turn (get key output) m = made m (λ st. Public.get (m .region) (m .script) st key output) (λ r. got (r .answer) (r .output))
 turn (contains key) m = made m (λ st. Public.contains (m .region) (m .script) st key) (λ r. told (r .answer))

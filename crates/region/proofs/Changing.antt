@@ -11,6 +11,8 @@ use lib.ListN.{length, drop, replicate, replicate-append-replicate}
 use lib.Seq.{take-append-seam, drop-append-seam, drop-append-add}
 use Rattle.definition.specs.Tools.{Bytes}
 use Rattle.definition.specs.Region.{Item, removed, stored, span, spanOf, recordOf, allowed, good, items, used, records, render, room, removeIn, roomIn, storeIn}
+use Rattle.definition.specs.Space.{spaceOf}
+use Rattle.definition.specs.declared.Space.{Space}
 use Rattle.definition.proofs.Choices.{pick-yes}
 use Rattle.definition.proofs.Records.{record-length}
 use Rattle.definition.proofs.Items.{absent, used-append, used-stored}
@@ -113,7 +115,7 @@ module _ (s : Bytes) (i : Item) (g : good s ≡ true) (ok : allowed (length (i .
   unfolding storedBy
   stores-nothing f =
       let n : roomIn i s ≡ false = sym said ∙ not-true y f in
-      record { answer = sym (ap storedBy n); now = record { fine = g; is = sym (store-full i s n) } }
+      record { answer = sym (ap (λ (y : Bool). storedBy y (spaceOf s)) n); now = record { fine = g; is = sym (store-full i s n) } }
 
   module _ (t : not y ≡ false) {b : Bytes} (h : Now b (removeIn (i .key) s)) {end : ℕ} (ee : end ≡ used (items b)) where
     roomy : roomIn i s ≡ true
@@ -128,10 +130,10 @@ module _ (s : Bytes) (i : Item) (g : good s ≡ true) (ok : allowed (length (i .
         let e = end-is in
         omega (arith, used-stored i (items s), room-parts i s roomy .1)
 
-    pub stores : {c : Bytes} → c ≡ written b end (recordOf i) → Stores i s c Done
+    pub stores : {c : Bytes} {n : Space} → c ≡ written b end (recordOf i) → n ≡ spaceOf c → Stores i s c (Done n)
     unfolding storedBy removeIn stored
-    stores {c} f =
+    stores {c} f en =
         let eq : c ≡ storeIn i s =
         f ∙ ap₂ (λ (x : Bytes) (n : ℕ). written x n (recordOf i)) (h .is) end-is
         ∙ written-item (length s) (removed (i .key) (items s)) i ∙ sym (store-room i s roomy) in
-        record { answer = sym (ap storedBy roomy); now = record { fine = ap good eq ∙ store-good s g i; is = eq } }
+        record { answer = ap Done en ∙ sym (ap (λ (y : Bool). storedBy y (spaceOf c)) roomy); now = record { fine = ap good eq ∙ store-good s g i; is = eq } }

@@ -2,7 +2,7 @@
 use mathlib.Core.Path.{_≡_, refl, sym, ap, ap₂, subst, _∙_}
 use mathlib.Core.Bool.{Bool, true, false}
 use mathlib.Core.List.{List, [], _∷_}
-use Prim.Native.Nat.{ℕ, _+_}
+use Prim.Native.Nat.{ℕ, _+_, _-_, _≤_}
 use native.Mathlib.Nat.{add-assoc, add-zero}
 use native.Mathlib.Omega.{arith}
 use lib.ListN.{length, take, drop, length-take, length-drop}
@@ -14,7 +14,10 @@ use Rattle.definition.specs.declared.Head.the-variants.{Record, End, Bad}
 use Rattle.definition.proofs.Choices.{pick-yes, pick-no, bool}
 use Rattle.definition.proofs.Records.{span-holds, bounded, record-sound, head-end, end-blank}
 use Rattle.definition.proofs.Image.{items-record, whole-record, whole-end, whole-bad}
+use Rattle.definition.specs.Codec.{reserved}
+use Rattle.definition.specs.Space.{takes, spaceOf}
 use Rattle.region.specs.Places.{keyAt, valueAt, Met, placeOf}
+use Rattle.region.specs.Changes.{userCount}
 use Rattle.region.specs.declared.Found.the-variants as F
 
 -- ---- a visit
@@ -47,6 +50,10 @@ module _ (s : Bytes) (at k v : ℕ) where
 
 -- ---- the record that was met
 
+pub user-small : (k : Bytes) {u : ℕ} → u ≡ userCount k → u ≤ 1
+unfolding userCount pick
+user-small k e = bool (reserved k) (λ y. let z : _ ≡ 0 = e ∙ rw y refl in omega arith) (λ y. let z : _ ≡ 1 = e ∙ rw y refl in omega arith)
+
 module _ {s : Bytes} {at k v n : ℕ} (m : Met s at k v n) where
   pub met-key-length : length (keyAt s at k) ≡ k
   unfolding keyAt
@@ -72,6 +79,12 @@ module _ {s : Bytes} {at k v n : ℕ} (m : Met s at k v n) where
 
   pub met-count : (c : ℕ) → c + length (items (drop at s)) ≡ c + 1 + length (items (drop n s))
   met-count c = ap (λ (l : List Item). c + length l) (m .left) ∙ omega arith
+
+  pub met-takes : {u : ℕ} (c : ℕ) → u ≡ userCount (keyAt s at k) → c + takes (items (drop at s)) ≡ c + u + takes (items (drop n s))
+  unfolding takes userCount pick
+  met-takes {u} c e =
+      ap (λ (l : List Item). c + takes l) (m .left)
+      ∙ bool (reserved (keyAt s at k)) (λ y. rw (e, y) (omega arith)) (λ y. rw (e, y) (omega arith))
 
   -- the place of a key: here, or further on
   module _ (key : Bytes) {b : Bool} {part : Bytes} (ep : part ≡ keyAt s at k) (eb : b ≡ eqs part key) where
@@ -114,6 +127,15 @@ whole-stop s e =
 pub used-stop : (s : Bytes) (at : ℕ) → items (drop at s) ≡ [] → at + used (items (drop at s)) ≡ at
 unfolding used
 used-stop s at e = ap (λ (l : List Item). at + used l) e ∙ add-zero at
+
+-- what a walk that counted has, at its end
+pub space-stop : (s : Bytes) (at n : ℕ) → used (items s) ≡ at + used (items (drop at s)) → takes (items s) ≡ n + takes (items (drop at s)) → items (drop at s) ≡ []
+    → record { used = at; free = length s - at; takes = n } ≡ spaceOf s
+unfolding spaceOf takes
+space-stop s at n eu et e =
+    let u : at ≡ used (items s) = sym (eu ∙ used-stop s at e) in
+    let t : n ≡ takes (items s) = sym (et ∙ ap (λ (l : List Item). n + takes l) e ∙ add-zero n) in
+    ap₂ (λ (a m : ℕ). record { used = a; free = length s - a; takes = m }) u t
 
 pub count-stop : (s : Bytes) (at n : ℕ) → items (drop at s) ≡ [] → n + length (items (drop at s)) ≡ n
 count-stop s at n e = ap (λ (l : List Item). n + length l) e ∙ add-zero n

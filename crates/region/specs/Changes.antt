@@ -1,8 +1,12 @@
 -- What the region's two item calls that write leave: document 01's `storeIn` and `removeIn`, and a good image.
 use mathlib.Core.Path.{_≡_}
 use mathlib.Core.Bool.{Bool, true, false}
-use Rattle.definition.specs.Tools.{Bytes}
-use Rattle.definition.specs.Region.{Item, good, roomIn, storeIn}
+use Prim.Native.Nat.{ℕ}
+use Rattle.definition.specs.Tools.{Bytes, pick}
+use Rattle.definition.specs.Region.{Item, good, roomIn, storeIn, removeIn}
+use Rattle.definition.specs.Codec.{reserved}
+use Rattle.definition.specs.Space.{spaceOf}
+use Rattle.definition.specs.declared.Space.{Space}
 use Rattle.region.specs.declared.Stored.{Stored}
 use Rattle.region.specs.declared.Stored.the-variants.{Done, Full}
 
@@ -11,12 +15,21 @@ pub record Now (b c : Bytes) : Type 0 where
   pub fine : good b ≡ true
   pub is : b ≡ c
 
--- "Full exactly if used bytes, less the old record, plus the new one exceed L."
-unfoldable pub storedBy : Bool → Stored
-storedBy true = Done
-storedBy false = Full
+-- a removal of k from s leaves b, and says what it holds
+pub record Removes (k s b : Bytes) (n : Space) : Type 0 where
+  pub now : Now b (removeIn k s)
+  pub space : n ≡ spaceOf b
 
--- a store of i in s leaves b and answers r
+-- "Full exactly if used bytes, less the old record, plus the new one exceed L."
+unfoldable pub storedBy : Bool → Space → Stored
+storedBy true n = Done n
+storedBy false n = Full
+
+-- a store of i in s leaves b, and answers r, with what b holds
 pub record Stores (i : Item) (s b : Bytes) (r : Stored) : Type 0 where
-  pub answer : r ≡ storedBy (roomIn i s)
+  pub answer : r ≡ storedBy (roomIn i s) (spaceOf b)
   pub now : Now b (storeIn i s)
+
+-- how many user records a record with this key is
+unfoldable pub userCount : Bytes → ℕ
+userCount k = pick (reserved k) 0 1

@@ -1,6 +1,7 @@
 // The region's bytes: the image test, the records by place and by key, and the two item calls that write. Document 01 defines them in "The
 // region and its items"; the contracts say that each function is that definition. Nothing above this crate knows a byte of a record, but
 // for the lengths and heads that it passes on from `records`.
+use definition::Space;
 use records::HEAD_SIZE;
 use records::ITEM_KIND;
 pub use records::agrees;
@@ -15,9 +16,10 @@ ghost use Prim.Native.Nat.{_+_, _-_, _≤_};
 ghost use lib.ListN.{length, drop};
 ghost use Rattle.definition.specs.Region;
 ghost use Rattle.definition.specs.Region.{item, distinct, removed, allowed, items, whole, good, room, removeIn};
+ghost use Rattle.definition.specs.Space.{spaceOf};
 ghost use Rattle.definition.specs.Recovery.{isJournal};
 ghost use Rattle.region.specs.Places.{Visit, placeOf, keyAt, valueAt, Fetched, FirstJournal};
-ghost use Rattle.region.specs.Changes.{Now, Stores};
+ghost use Rattle.region.specs.Changes.{Now, Removes, Stores, userCount};
 
 // What a walk meets at a place: a record's key length, value length and the next place; or the walk is over.
 pub enum Next {
@@ -37,9 +39,9 @@ pub enum Spot {
     Nothing,
 }
 
-// What a store answers.
+// What a store answers: what the region then holds, or that there was no room.
 pub enum Stored {
-    Done,
+    Done(Space),
     Full,
 }
 
@@ -205,6 +207,35 @@ pub fn count(region: &[u8]) -> usize
     }
 }
 
+// How many user records a record with this key is.
+fn user_count(key: &[u8]) -> usize
+    ensures { λ r. ⌜ r ≡ userCount (now (key .entry)) ⌝ }
+{
+    if marks::reserved(key) {
+        return 0;
+    }
+    1
+}
+
+// What the region holds, in one walk.
+pub fn space(region: &[u8]) -> Space
+    ensures { λ r. ⌜ r ≡ spaceOf (now (region .entry)) ⌝ }
+{
+    let mut at: usize = 0;
+    let mut takes: usize = 0;
+    loop {
+        let Next::Item(klen, _, next) = next_item(region, at) else {
+            return Space {
+                used: at,
+                free: region.len() - at,
+                takes: takes,
+            };
+        };
+        takes += user_count(key_at(region, at, klen));
+        at = next;
+    }
+}
+
 // ---- the journal's keys
 
 // Whether a key is a journal key.
@@ -240,7 +271,7 @@ pub fn first_journal(region: &[u8]) -> Spot
 // ---- the item calls that write
 
 // Drops the record with a key and closes the gap; an absent key changes nothing.
-pub fn remove(region: &mut [u8], key: &[u8])
+fn drop_record(region: &mut [u8], key: &[u8])
     requires { ⌜ good (now region) ≡ true ⌝ }
     ensures { λ _. ⌜ Now (now (region .exit)) (removeIn (now (key .entry)) (now (region .entry))) ⌝ }
 {
@@ -249,6 +280,15 @@ pub fn remove(region: &mut [u8], key: &[u8])
     };
     let n = span(klen, vlen);
     records::cut(region, at, n);
+}
+
+// Drops the record with a key, and says what the region then holds.
+pub fn remove(region: &mut [u8], key: &[u8]) -> Space
+    requires { ⌜ good (now region) ≡ true ⌝ }
+    ensures { λ r. ⌜ Removes (now (key .entry)) (now (region .entry)) (now (region .exit)) r ⌝ }
+{
+    drop_record(region, key);
+    space(region)
 }
 
 // The room that the record with a key takes, or 0.
@@ -279,8 +319,8 @@ pub fn store(region: &mut [u8], key: &[u8], value: &[u8]) -> Stored
     if !has_room(region, key, value) {
         return Stored::Full;
     }
-    remove(region, key);
+    drop_record(region, key);
     let end = used(region);
     put_record(region, end, key, value);
-    Stored::Done
+    Stored::Done(space(region))
 }

@@ -65,11 +65,13 @@ pub fn stepped(script: &[u8], step: Step) -> Step
 {
     let calls = std::num::wrapping_add_u64(step.calls, 1);
     let at = step.at;
+    let space = step.space;
     if step.cut {
         return Step {
             at: at,
             cut: true,
             calls: calls,
+            space: space,
         };
     }
     if at < script.len() {
@@ -79,11 +81,13 @@ pub fn stepped(script: &[u8], step: Step) -> Step
             at: at + 1,
             cut: cut,
             calls: calls,
+            space: space,
         };
     }
     Step {
         at: at,
         cut: false,
         calls: calls,
+        space: space,
     }
 }

@@ -1,4 +1,4 @@
-// The calls of document 01 over single keys, and mount. Public: none requires anything, and each is equal to its definition in
+// The calls of document 01 over single keys, mount, and the display's question. Public: none requires anything, and each is equal to its definition in
 // `definition/specs/Public`: answer, state, item calls and every lent byte.
 use codec::Checked;
 use codec::Key;
@@ -8,6 +8,7 @@ use definition::GetAnswer;
 use definition::GetReply;
 use definition::Health;
 use definition::Reply;
+use definition::Space;
 use definition::State;
 use definition::TruthAnswer;
 use definition::TruthReply;
@@ -135,14 +136,17 @@ pub fn delete(region: &mut [u8], script: &[u8], state: State, key: &[u8]) -> Tru
 
 // ---- mount
 
-// Mounts the region, which stands at `start`, with the script at `at` and no cut; a refused mount hands the place reached back.
+// Mounts the region, which stands at `start`, with the script at `at` and no cut; a refused mount hands the place reached back. What the region
+// holds is worked out here, and every call keeps it.
 pub fn mount(region: &mut [u8], script: &[u8], start: u32, at: usize) -> Reply
     ensures { λ r. ⌜ outcome (r .answer) (r .state) (r .calls) (now (region .exit)) [] ≡ Public.mount (now (region .entry)) (now (script .entry)) start at ⌝ }
 {
+    let space = region::space(region);
     let state = State {
         health: Health::Pending,
         at: at,
         cut: false,
+        space: space,
     };
     if let Checked::Refused(fault) = limits::check_region(start, region.len()) {
         return Reply {
@@ -163,4 +167,13 @@ pub fn mount(region: &mut [u8], script: &[u8], start: u32, at: usize) -> Reply
         return gate::refused(items::why(recovered), Health::Pending);
     };
     gate::reply(Answer::Ok, Health::Clean, next)
+}
+
+// ---- the display's question
+
+// The bytes used and free, and the number of takes: read off the state, with no look at the region.
+pub fn space(state: State) -> Space
+    ensures { λ r. ⌜ r ≡ Public.space state ⌝ }
+{
+    state.space
 }

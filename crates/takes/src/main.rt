@@ -4,6 +4,7 @@ use definition::Fault;
 use definition::GetAnswer;
 use definition::Health;
 use definition::ScanEnd;
+use definition::Space;
 use definition::State;
 use definition::TruthAnswer;
 use region::Next;
@@ -50,6 +51,7 @@ enum Command {
     Del,
     Batch,
     Scan,
+    Free,
     Unknown,
 }
 
@@ -81,6 +83,9 @@ fn command_of(name: &[u8]) -> Command {
     }
     if check::same(name, b"scan") {
         return Command::Scan;
+    }
+    if check::same(name, b"free") {
+        return Command::Free;
     }
     key_command_of(name)
 }
@@ -410,6 +415,19 @@ fn scan_line(
     closed
 }
 
+// The display's question: free bytes, used bytes and takes, as the state has them. No item call is made for it.
+fn free_line(out: &mut [u8], said: Said) -> Said {
+    let space = store::space(said.state);
+    let waiting = output::put(out, said.waiting, b"free ");
+    let waiting = output::put_decimal(out, waiting, space.free as u64);
+    let waiting = output::put(out, waiting, b" ");
+    let waiting = output::put_decimal(out, waiting, space.used as u64);
+    let waiting = output::put(out, waiting, b" ");
+    let waiting = output::put_decimal(out, waiting, space.takes as u64);
+    let waiting = output::put(out, waiting, b" ");
+    close_line(out, waiting, 0, said.state)
+}
+
 // `-` stands for the empty prefix.
 fn prefix_of(word: &[u8]) -> &[u8] {
     if check::same(word, b"-") {
@@ -468,7 +486,15 @@ fn run_key(
     }
 }
 
-// A command with one word or two; an empty one is not there.
+// A command by itself.
+fn run_bare(out: &mut [u8], command: Command, said: Said) -> Said {
+    match command {
+        Command::Free => free_line(out, said),
+        _ => bad_line(out, said),
+    }
+}
+
+// A command with one word or two, or none; an empty one is not there.
 fn run_words(
     region: &mut [u8],
     script: &[u8],
@@ -480,7 +506,7 @@ fn run_words(
     said: Said,
 ) -> Said {
     if first.len() == 0 {
-        return bad_line(out, said);
+        return run_bare(out, command, said);
     }
     if let Command::Scan = command {
         return run_scan(region, script, work, out, first, second, said);
@@ -606,10 +632,12 @@ fn mount_line(
 fn restarted(said: Said) -> Said {
     let state = said.state;
     let health = state.health;
+    let space = state.space;
     let state = State {
         health: health,
         at: 0,
         cut: state.cut,
+        space: space,
     };
     Said {
         mounted: said.mounted,
@@ -722,10 +750,16 @@ fn run_read(
 fn started() -> Console
     ensures { λ r. ⌜ (r .region ≡ 0) × (r .script ≡ 0) ⌝ }
 {
+    let space = Space {
+        used: 0,
+        free: 0,
+        takes: 0,
+    };
     let state = State {
         health: Health::Pending,
         at: 0,
         cut: false,
+        space: space,
     };
     let said = Said {
         mounted: false,

@@ -2,7 +2,7 @@
 //! pointer and its length.
 
 use crate::subject::{On, Subject};
-use outcome::{Op, Outcome, State};
+use outcome::{Op, Outcome, Space, State};
 
 /// A function that takes region, script and state, and then some more.
 macro_rules! on_state {
@@ -27,6 +27,7 @@ on_state! {
 
 extern "C" {
     fn takes_mount(_: *mut u8, _: usize, _: *const u8, _: usize, start: u32, at: u64) -> Outcome;
+    fn takes_space(_: State) -> Space;
 }
 
 /// A call with region and script, and then some more. Every pointer comes from a
@@ -87,5 +88,10 @@ impl Subject for Archive {
             on.region, on.script, on.state,
             prefix.as_ptr(), prefix.len(), most, out.as_mut_ptr(), out.len()
         ))
+    }
+
+    fn space(&self, state: State) -> Space {
+        // Numbers alone cross, by value.
+        unsafe { takes_space(state) }
     }
 }

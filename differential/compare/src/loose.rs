@@ -21,11 +21,14 @@ pub fn some(bench: &mut Bench, draw: &mut Draw) {
             health: draw.below(3) as u64,
             at: position(draw, &script),
             cut: u64::from(draw.chance(8)),
+            ..State::default()
         };
         bench.stand(&region, &script, state);
         // A few more calls go on from where the first one led.
         for _ in 0..draw.between(1, 3) {
-            bench.run(&call(draw));
+            let call = call(draw);
+            bench.run_untrue(&call, None);
+            bench.run(&call);
         }
     }
 }

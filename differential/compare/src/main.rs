@@ -15,6 +15,7 @@ mod runs;
 mod subject;
 mod sweeps;
 mod tally;
+mod untrue;
 
 use bench::Bench;
 use std::process::ExitCode;
@@ -50,6 +51,7 @@ fn subject(name: &str) -> Option<Box<dyn Subject>> {
 fn compare(subject: Box<dyn Subject>, calls: u64, seed: u64, short: bool) -> ExitCode {
     let mut bench = Bench::new(subject);
     edges::all(&mut bench);
+    untrue::all(&mut bench);
     if !short {
         large::all(&mut bench);
     }

@@ -1,7 +1,7 @@
 //! What is compared with the Rust original: functions of region, script and
 //! state. The mirror is the plain model.
 
-use outcome::{Op, Outcome, State};
+use outcome::{Op, Outcome, Space, State};
 
 pub trait Subject {
     fn mount(&self, region: &mut [u8], script: &[u8], start: u32, at: u64) -> Outcome;
@@ -12,6 +12,8 @@ pub trait Subject {
     fn batch(&self, on: On, list: &[u8]) -> Outcome;
     fn ops(&self, on: On, ops: &[Op], pool: &[u8]) -> Outcome;
     fn scan(&self, on: On, prefix: &[u8], most: u64, out: &mut [u8]) -> Outcome;
+    /// The question for the room, which sees the state and no region.
+    fn space(&self, state: State) -> Space;
 }
 
 /// What every call but mount is given.
@@ -54,5 +56,9 @@ impl Subject for Mirror {
 
     fn scan(&self, on: On, prefix: &[u8], most: u64, out: &mut [u8]) -> Outcome {
         model::scan(on.region, on.script, on.state, prefix, most, out)
+    }
+
+    fn space(&self, state: State) -> Space {
+        model::space(state)
     }
 }

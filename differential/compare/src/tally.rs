@@ -19,6 +19,8 @@ pub struct Tally {
     spent: [Spent; Call::KINDS.len()],
     /// Answers that document 01 names and that no input gives.
     never: u64,
+    /// Calls from untrue numbers, which are not among the others.
+    pub untrue: u64,
     differences: u64,
 }
 
@@ -72,6 +74,7 @@ impl Tally {
             println!("  time: original {original:.2?}, subject {subject:.2?}");
         }
         println!("answers that should never come {}", self.never);
+        println!("calls from untrue numbers {}", self.untrue);
         println!("differences {}", self.differences);
     }
 }

@@ -16,6 +16,7 @@ pub enum Command<'a> {
     /// Already as document 01's operation list.
     Batch(Vec<u8>),
     Scan(&'a [u8], u64),
+    Free,
 }
 
 pub fn read(line: &[u8]) -> Option<Command<'_>> {
@@ -33,6 +34,7 @@ pub fn read(line: &[u8]) -> Option<Command<'_>> {
         (b"batch", _) => Command::Batch(operations(after(line, name))?),
         (b"scan", [prefix]) => Command::Scan(empty_if_dash(prefix), u64::MAX),
         (b"scan", [prefix, most]) => Command::Scan(empty_if_dash(prefix), number(most)?),
+        (b"free", []) => Command::Free,
         _ => return None,
     })
 }

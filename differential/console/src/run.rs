@@ -1,11 +1,13 @@
 //! Doing the commands and writing the answers.
 
 use crate::line::{read, Command};
-use oracle::{erased, image, Outcome, Session};
+use oracle::{erased, image, Outcome, Session, Space};
 
 /// The longest value that a good image can hold, so that no get is refused for
 /// its output.
 const LONGEST_VALUE: usize = image::ITEM_MAX;
+
+const HEALTHS: [&str; 3] = ["clean", "debris", "pending"];
 
 pub struct Console {
     session: Session,
@@ -54,6 +56,7 @@ impl Console {
                 answer(out, "batch", said, ["ok", ""], b"");
             }
             Command::Scan(prefix, most) => self.scan(prefix, most, out),
+            Command::Free => self.free(out),
         }
         Some(())
     }
@@ -85,6 +88,13 @@ impl Console {
             from += size;
         }
     }
+
+    /// Bytes left, bytes used, user records, no item call, health.
+    fn free(&mut self, out: &mut Vec<u8>) {
+        let Space { used, free, takes } = self.session.space();
+        let health = HEALTHS[self.session.health() as usize];
+        out.extend(format!("free {free} {used} {takes} 0 {health}\n").bytes());
+    }
 }
 
 /// Command, answer, then the refusal's number or the value where there is one,
@@ -105,7 +115,7 @@ fn answer(out: &mut Vec<u8>, command: &str, said: Outcome, words: [&str; 2], val
     let health = match (command, said.answer) {
         // A refused mount leaves no store that could have one.
         ("mount", 0) => "-",
-        _ => ["clean", "debris", "pending"][said.health as usize],
+        _ => HEALTHS[said.health as usize],
     };
     out.extend(format!("{} {health}\n", said.calls).bytes());
 }

@@ -1,13 +1,14 @@
-//! mount, get, contains, put and delete.
+//! mount, get, contains, put and delete, and the question for the room.
 
+use crate::items::space_of;
 use crate::world::{no_call, on, World};
 use crate::{reserved, No, Yes};
-use outcome::{Outcome, State, DEBRIS, PENDING};
+use outcome::{Outcome, Space, State, DEBRIS, PENDING};
 
 pub fn mount(region: &mut [u8], script: &[u8], start: u32, at: u64) -> Outcome {
     // Until it is known, the region may hold anything: a refused mount hands
-    // back Pending. Every mount begins with the cut lifted.
-    let state = State { health: PENDING, at, cut: 0 };
+    // back Pending. Every mount begins with the cut lifted, and with a walk.
+    let state = State { health: PENDING, at, cut: 0, space: space_of(region) };
     let len = region.len() as u64;
     let start = u64::from(start);
     let wrong = [
@@ -69,6 +70,11 @@ pub fn delete(region: &mut [u8], script: &[u8], state: State, key: &[u8]) -> Out
         }
         Ok(Yes::plain(if found { 1 } else { 2 }))
     })
+}
+
+/// The room, from the state alone.
+pub fn space(state: State) -> Space {
+    state.space
 }
 
 /// Recover, then a key that cannot be stored is absent without a fetch.

@@ -1,5 +1,7 @@
 //! The region as a list of items, and back to bytes.
 
+use outcome::Space;
+
 #[derive(Clone, Debug, PartialEq, Eq)]
 pub struct Item {
     pub key: Vec<u8>,
@@ -45,22 +47,41 @@ pub fn take(bytes: &[u8]) -> Option<Taken<'_>> {
     Some((kind, key, value, rest))
 }
 
-/// The items of a good image; nothing if the image is bad.
-pub fn items(region: &[u8]) -> Option<Vec<Item>> {
+/// The items at the front of any bytes, up to the first place that has none,
+/// and what stands there.
+fn front(region: &[u8]) -> (Vec<Item>, &[u8]) {
     let mut items = Vec::new();
     let mut rest = region;
-    while rest.iter().any(|byte| *byte != 0xff) {
-        let (kind, key, value, after) = take(rest)?;
-        if kind != 1 || key.len() > 96 || 1 + key.len() + value.len() > 482 {
-            return None;
+    while let Some((1, key, value, after)) = take(rest) {
+        if key.len() > 96 || 1 + key.len() + value.len() > 482 {
+            break;
         }
         items.push(Item { key: key.to_vec(), value: value.to_vec() });
         rest = after;
     }
+    (items, rest)
+}
+
+/// The items of a good image; nothing if the image is bad.
+pub fn items(region: &[u8]) -> Option<Vec<Item>> {
+    let (items, rest) = front(region);
     let mut keys: Vec<&[u8]> = items.iter().map(|item| item.key.as_slice()).collect();
     keys.sort_unstable();
     let twice = keys.windows(2).any(|pair| pair[0] == pair[1]);
-    (!twice).then_some(items)
+    let ends = rest.iter().all(|byte| *byte == 0xff);
+    (ends && !twice).then_some(items)
+}
+
+/// The room that these items leave in a region of so many bytes.
+pub fn space(items: &[Item], bytes: usize) -> Space {
+    let used: usize = items.iter().map(Item::size).sum();
+    let takes = items.iter().filter(|item| !crate::reserved(&item.key)).count();
+    Space { used: used as u64, free: (bytes - used) as u64, takes: takes as u64 }
+}
+
+/// The room of a region as it is found, good or bad.
+pub fn space_of(region: &[u8]) -> Space {
+    space(&front(region).0, region.len())
 }
 
 /// Write the image of these items, which fit.

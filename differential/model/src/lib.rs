@@ -10,7 +10,7 @@ mod scan;
 mod world;
 
 pub use batch::{batch, ops};
-pub use calls::{contains, delete, get, mount, put};
+pub use calls::{contains, delete, get, mount, put, space};
 pub use scan::scan;
 
 /// A refusal: document 01's number and its values.

@@ -1,9 +1,9 @@
 //! Item calls on a list of items under the fault script, and the frame that
 //! every public call shares.
 
-use crate::items::{items, render, Item};
+use crate::items::{items, render, space, Item};
 use crate::{No, Yes};
-use outcome::{Outcome, State};
+use outcome::{Outcome, Space, State};
 
 pub struct World<'s> {
     pub items: Vec<Item>,
@@ -13,6 +13,8 @@ pub struct World<'s> {
     script: &'s [u8],
     at: u64,
     cut: bool,
+    /// As it was handed in, until an item call takes effect.
+    space: Space,
     calls: u64,
 }
 
@@ -66,6 +68,7 @@ impl World<'_> {
                 self.items.remove(place);
             }
             self.items.push(new);
+            self.space = space(&self.items, self.bytes);
         }
         fits
     }
@@ -74,6 +77,7 @@ impl World<'_> {
         if let Some(place) = self.place(key) {
             self.items.remove(place);
         }
+        self.space = space(&self.items, self.bytes);
     }
 
     pub fn store(&mut self, key: &[u8], value: &[u8]) -> Result<(), No> {
@@ -130,18 +134,19 @@ pub fn on(
     state: State,
     call: impl FnOnce(&mut World) -> Result<Yes, No>,
 ) -> Outcome {
-    let State { health, at, cut } = state;
+    let State { health, at, cut, space } = state;
     let Some(items) = items(region) else {
         return no_call(No::CORRUPTED, state);
     };
     let mut world =
-        World { items, bytes: region.len(), health, script, at, cut: cut != 0, calls: 0 };
+        World { items, bytes: region.len(), health, script, at, cut: cut != 0, space, calls: 0 };
     let said = call(&mut world);
     render(&world.items, region);
     let left = Outcome {
         health: world.health,
         at: world.at,
         cut: u64::from(world.cut),
+        space: world.space,
         calls: world.calls,
         ..Outcome::default()
     };
@@ -159,6 +164,7 @@ pub fn no_call(no: No, state: State) -> Outcome {
         health: state.health,
         at: state.at,
         cut: state.cut,
+        space: state.space,
         ..Outcome::default()
     }
 }

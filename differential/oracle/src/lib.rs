@@ -7,8 +7,10 @@ mod number;
 mod said;
 mod scan;
 mod session;
+mod space;
 
-pub use outcome::{Outcome, CLEAN, DEBRIS, PENDING};
+pub use outcome::{Outcome, Space, CLEAN, DEBRIS, PENDING};
 pub use sequential_storage::flash::ScriptedFlash;
 pub use sequential_storage::image;
 pub use session::{erased, Session};
+pub use space::walk;

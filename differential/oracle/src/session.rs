@@ -3,9 +3,10 @@
 
 use crate::number::{said, BAD_REGION, CORRUPTED, TOO_HIGH};
 use crate::said::Said;
+use crate::space::walk;
 use arxia_storage::{BatchOp, StorageBackend};
 use arxia_storage_flash::FlashStorage;
-use outcome::{Outcome, CLEAN, DEBRIS, PENDING};
+use outcome::{Outcome, Space, CLEAN, DEBRIS, PENDING};
 use sequential_storage::flash::ScriptedFlash;
 use sequential_storage::image;
 use sequential_storage::map::MapConfig;
@@ -146,6 +147,12 @@ impl Session {
         }
     }
 
+    /// The room of the region as it is. An outcome is without it, so that the
+    /// walk is not in a call's time.
+    pub fn space(&mut self) -> Space {
+        self.with_flash(|flash| walk(&flash.region))
+    }
+
     /// Every call but mount: the image test, then the call. The item calls are
     /// counted from here.
     pub(crate) fn on_good_image(&mut self, call: impl FnOnce(&mut Store) -> Said) -> Outcome {
@@ -170,6 +177,7 @@ impl Session {
             health,
             at: flash.at,
             cut: u64::from(flash.cut),
+            space: Space::default(),
             calls: flash.calls,
         })
     }

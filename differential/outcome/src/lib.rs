@@ -6,6 +6,16 @@ pub const CLEAN: u64 = 0;
 pub const DEBRIS: u64 = 1;
 pub const PENDING: u64 = 2;
 
+/// The room of a region: bytes of all its records, bytes left, and the number
+/// of user records.
+#[repr(C)]
+#[derive(Clone, Copy, Debug, Default, PartialEq, Eq)]
+pub struct Space {
+    pub used: u64,
+    pub free: u64,
+    pub takes: u64,
+}
+
 /// What a caller keeps between calls.
 #[repr(C)]
 #[derive(Clone, Copy, Debug, Default, PartialEq, Eq)]
@@ -13,6 +23,7 @@ pub struct State {
     pub health: u64,
     pub at: u64,
     pub cut: u64,
+    pub space: Space,
 }
 
 /// Everything a call says but the bytes it leaves in region and output.
@@ -31,6 +42,7 @@ pub struct Outcome {
     pub health: u64,
     pub at: u64,
     pub cut: u64,
+    pub space: Space,
     pub calls: u64,
 }
 

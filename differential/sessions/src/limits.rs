@@ -8,6 +8,7 @@ pub fn keys_and_values(text: &mut Text) {
     for len in [96, 97] {
         let key = vec![b'k'; len];
         text.words(&[b"put", &key, b"1"]);
+        text.line("free");
         text.words(&[b"get", &key]);
         text.words(&[b"has", &key]);
         text.words(&[b"scan", &key]);
@@ -23,6 +24,7 @@ pub fn keys_and_values(text: &mut Text) {
         let value = vec![b'v'; len];
         text.words(&[b"put a", &value]);
         text.words(&[b"batch put b", &value, b"; put c 1"]);
+        text.line("free");
     }
     text.lines(&["get a", "get b", "scan c"]);
     // A good operation before a wrong one is not done.
@@ -40,6 +42,7 @@ fn reserved(text: &mut Text) {
     long_key[0] = 0;
     for key in [&b"\0c"[..], &long_key] {
         text.words(&[b"put", key, b"1"]);
+        text.line("free");
         text.words(&[b"put", key, &long_value]);
         text.words(&[b"batch put", key, b"1"]);
         text.words(&[b"batch put", key, &long_value]);
@@ -59,6 +62,7 @@ pub fn odd_bytes(text: &mut Text) {
     }
     // 61 is below 61 00, and that is below 61 09.
     text.line("put a 1");
+    text.line("free");
     text.line("scan a");
     text.line("scan -");
 }

@@ -27,7 +27,7 @@ pub fn session(seed: u64) -> Vec<u8> {
 
 /// Most lines are whole; some have noise in them, and a few are nothing else.
 fn line(draw: &mut Draw) -> Vec<u8> {
-    let mut line = draw.line().into_bytes();
+    let mut line = if draw.below(6) == 0 { b"free".to_vec() } else { draw.line().into_bytes() };
     match draw.below(40) {
         0..=4 => noise(draw, &mut line),
         5 => line = (0..draw.below(200)).map(|_| draw.below(256) as u8).collect(),

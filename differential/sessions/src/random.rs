@@ -89,6 +89,10 @@ pub fn lines(text: &mut Text) {
         let line = draw.line();
         let mounts = line.starts_with("mount");
         text.line(line);
+        // The room spends nothing of the script and draws nothing.
+        if number % 2 == 1 {
+            text.line("free");
+        }
         // A cut or a refused mount would leave too little of the rest, so a
         // sure mount comes often enough; not always at once.
         if number % 25 == 24 || (mounts && draw.below(2) == 0) {

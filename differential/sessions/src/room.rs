@@ -24,6 +24,7 @@ fn fill(text: &mut Text, used: usize) {
         if left <= 534 {
             text.line(put(left / 2).0);
             text.line(put(left - left / 2).0);
+            text.line("free");
             return;
         }
     }
@@ -33,28 +34,31 @@ fn fill(text: &mut Text, used: usize) {
 /// batch is committed and every call says full from there on.
 pub fn committed_without_room(text: &mut Text) {
     fill(text, 8160);
-    text.lines(&["batch put n 1", "get n", "has 10", "put a 1", "del 10", "scan -"]);
-    text.lines(&["batch del 10", "scan - 0"]);
+    text.lines(&["batch put n 1", "free", "get n", "has 10", "put a 1", "del 10", "scan -"]);
+    text.lines(&["batch del 10", "scan - 0", "free"]);
 }
 
 pub fn to_the_last_byte(text: &mut Text) {
     fill(text, 8192 - 11);
     // One byte too many, then just enough, then nothing fits any more.
-    text.lines(&["put n 22", "put n 1", "put m 1", "put n 2", "put n 22", "get n"]);
-    text.lines(&["batch del n", "batch put n 3", "put 10 short", "put m 1", "put n 22"]);
+    text.lines(&["put n 22", "free", "put n 1", "free", "put m 1", "put n 2", "put n 22", "get n"]);
+    text.lines(&["batch del n", "batch put n 3", "free", "put 10 short", "free", "put m 1"]);
+    text.line("put n 22");
     // A store that does not fit takes no effect and keeps its coded fault.
-    text.lines(&["script 83 85", "put 10 3", "put 11 22", "get 10"]);
-    text.lines(&["del 11", "batch put 11 3; put 12 3; del 13; put q 1", "scan q", "scan 11"]);
+    text.lines(&["script 83 85", "put 10 3", "free", "put 11 22", "free", "get 10"]);
+    text.lines(&["del 11", "free", "batch put 11 3; put 12 3; del 13; put q 1", "free"]);
+    text.lines(&["scan q", "scan 11"]);
 }
 
 /// In Debris a full store clears the journal and tries once more.
 pub fn debris_gives_way(text: &mut Text) {
     fill(text, 8192 - 40);
     text.line(script(1, &[0x03]));
-    text.lines(&["batch put n 1; put o 1", "put p 1", "get n"]);
+    text.lines(&["batch put n 1; put o 1", "free", "put p 1", "free", "get n"]);
     text.line(script(1, &[0x03]));
-    text.lines(&["batch put n 1; put o 1", "put q 1234567890123", "has q"]);
-    text.lines(&["script 03", "batch del n", "script 04 00 00 00 00 00 00", "put r 1"]);
-    text.lines(&["script 03", "batch del n", "script 04 05", "put r 1", "script 04", "put 10 r"]);
+    text.lines(&["batch put n 1; put o 1", "put q 1234567890123", "free", "has q"]);
+    text.lines(&["script 03", "batch del n", "script 04 00 00 00 00 00 00", "put r 1", "free"]);
+    text.lines(&["script 03", "batch del n", "script 04 05", "put r 1", "free", "script 04"]);
+    text.lines(&["put 10 r", "free"]);
     text.lines(&["put big 12345678901234567890123456789", "has big"]);
 }

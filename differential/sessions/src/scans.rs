@@ -28,5 +28,5 @@ pub fn faulted(text: &mut Text) {
     text.line(script(21, &[0x05]));
     text.line("scan m 8");
     text.line(script(30, &[0x7f]));
-    text.lines(&["scan m", "scan m", "script", "scan m", "mount 8192"]);
+    text.lines(&["scan m", "free", "scan m", "script", "scan m", "mount 8192", "free"]);
 }

@@ -10,7 +10,7 @@ flag-number-requires : tie.Need-flag-number-requires
 flag-number-requires c κs = search needs
 
 returns : tie.Need-returns
-returns c = built-is _ _ (c .before .before .args .values) _ _ (c .before .before .args .state) _ (c .before .health-number .ensures) (c .flag-number .ensures)
+returns c = built-is _ _ (c .before .before .before .args .values) _ _ (c .before .before .before .args .state) _ (c .before .before .health-number .ensures) (c .before .flag-number .ensures)
 
 pub built-of-spec : {M : Type 1} → statement M
 built-of-spec = tie.close (tie.spec health-number-requires flag-number-requires returns)

@@ -10,7 +10,10 @@ health-of-requires : tie.Need-health-of-requires
 health-of-requires c κs = search needs
 
 returns : tie.Need-returns
-returns c = ap (λ (h : Health). record { health = h; at = c .before .before .args .state .at; cut = not (eqb (c .before .before .args .state .cut) 0) }) (c .before .health-of .ensures)
+returns c =
+    let st = c .before .before .args .state in
+    ap (λ (h : Health). record { health = h; at = st .at; cut = not (eqb (st .cut) 0); space = record { used = st .used; free = st .free; takes = st .takes } })
+    (c .before .health-of .ensures)
 
 pub state-in-spec : {M : Type 1} → statement M
 state-in-spec = tie.close (tie.spec health-of-requires returns)

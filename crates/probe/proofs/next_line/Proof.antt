@@ -1,3 +1,4 @@
+use mathlib.Core.Path.{_∙_}
 use Rattle.probe.proofs.Laws.{met-visit}
 use borrow.Author.Needs.{needs}
 use Rattle.probe.proofs.next_line.Statement.{statement}
@@ -46,13 +47,13 @@ waits-requires-2 : tie.Need-waits-requires-2
 waits-requires-2 c κs = search needs
 
 same-length : tie.Need-same-length
-same-length c = search needs
+same-length c = c .before .before .before .before .before .put-step .kept .0 ∙ c .before .before .before .before .before .before .before .before .before .put-met .kept .1 .0 ∙ c .before .before .before .before .before .before .before .before .before .before .before .before .before .before .before .before .before .put .kept .0
 
 returns : tie.Need-returns
 returns c = search needs
 
 same-length-2 : tie.Need-same-length-2
-same-length-2 c = search needs
+same-length-2 c = c .before .before .before .before .put-step2 .kept .0 ∙ c .before .before .before .before .before .before .before .before .put-refused .kept .0 ∙ c .before .before .before .before .before .before .before .before .before .before .before .before .before .before .before .before .put .kept .0
 
 returns-2 : tie.Need-returns-2
 returns-2 c = search needs

@@ -49,6 +49,9 @@ copy-in-requires c κs =
     (c .before .before .before .before .count .given .1) in
     omega arith
 
+first-step-requires : tie.Need-first-step-requires
+first-step-requires c κs = search needs
+
 steps-requires : tie.Need-steps-requires
 steps-requires c κs = search needs
 
@@ -75,6 +78,7 @@ set-script-spec =
     array-share-prefix-bytes
     slice-aggregate-copy-in
     copy-in-requires
+    first-step-requires
     steps-requires
     same-length-3
     returns-3)

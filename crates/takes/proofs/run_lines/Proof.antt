@@ -1,6 +1,6 @@
 use borrow.Author.Needs.{needs}
 use Prim.Native.Nat.{_≤_}
-use mathlib.Core.Path.{_≡_}
+use mathlib.Core.Path.{_≡_, _∙_}
 use lib.ListN.{length}
 use Rattle.definition.specs.Tools.{Bytes}
 use Rattle.text.specs.declared.Unread.{Unread}
@@ -78,7 +78,24 @@ loop-less : tie.Need-loop-less Inv-loop μ-loop
 loop-less c = search needs
 
 loop-again : tie.Need-loop-again Inv-loop μ-loop
-loop-again c = search needs
+loop-again c =
+    let i = c .before .before .before .before .before .before .before .before .before .before .before .before .before .before .before .before .before .before .before .before .before .before .before .before .loop .inv in
+    let r = c .before .before .before .before .before .before .before .before .run-read in
+    let l = c .before .before .before .before .before .before .before .before .before .before .before .before .before .before .before .before .before .before .before .before .read-line in
+    let region-long = r .kept .0 ∙ i .region-long in
+    let script-long = r .kept .1 .0 ∙ i .script-long in
+    let input-long = l .kept .0 ∙ i .input-long in
+    record {
+      region-long = region-long;
+      script-long = script-long;
+      work-long = r .kept .1 .1 .0 ∙ i .work-long;
+      input-long = input-long;
+      line-long = l .kept .1 .1 .0 ∙ i .line-long;
+      out-long = r .kept .1 .1 .1 .0 ∙ i .out-long;
+      kept = search needs;
+      order = search needs;
+      within = search needs;
+    }
 
 same-length-7 : tie.Need-same-length-7 Inv-loop μ-loop
 same-length-7 c = search needs

@@ -5,8 +5,8 @@ use Rattle.region.specs.Places.{placeOf}
 use Rattle.region.specs.declared.Found.the-variants.{At}
 use Rattle.region.proofs.Finding.{located}
 use Rattle.region.proofs.Changing.{removes, removes-nothing}
-use Rattle.region.proofs.remove.Statement.{statement}
-use Rattle.region.proofs.remove.Tie as tie
+use Rattle.region.proofs.drop_record.Statement.{statement}
+use Rattle.region.proofs.drop_record.Tie as tie
 
 abbrev start : tie.After-known-told → tie.Start
 start c = c .before .before .before .before .before .before .before
@@ -45,8 +45,8 @@ returns-2 c =
     let k = z .before in
     removes _ _ (start k .pre) _ _ _ (found k) (z .span .ensures) (c .before .before .cut .ensures)
 
-pub remove-spec : {M : Type 1} → statement M
-remove-spec =
+pub drop-record-spec : {M : Type 1} → statement M
+drop-record-spec =
     tie.close
     (tie.spec
     find-requires
