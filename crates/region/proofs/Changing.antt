@@ -6,24 +6,25 @@ use Prim.Native.Nat.{ℕ, zero, suc, _+_, _-_, _≤_}
 use native.Mathlib.Nat.{zero-add}
 use native.Mathlib.Omega.{arith}
 use lib.Dec.{leb}
-use borrow.Author.Tests.{not-true, not-false}
+use borrow.Author.Tests.{not-true, not-false, le-leb, lt-leb, leb-true, leb-false}
 use lib.ListN.{length, drop, replicate, replicate-append-replicate}
 use lib.Seq.{take-append-seam, drop-append-seam, drop-append-add}
 use Rattle.definition.specs.Tools.{Bytes}
 use Rattle.definition.specs.Region.{Item, removed, stored, span, spanOf, recordOf, allowed, good, items, used, records, render, room, removeIn, roomIn, storeIn}
-use Rattle.definition.specs.Space.{spaceOf}
+use Rattle.definition.specs.Space.{takes, spaceOf}
 use Rattle.definition.specs.declared.Space.{Space}
-use Rattle.definition.proofs.Choices.{pick-yes}
+use Rattle.definition.proofs.Choices.{pick-yes, bool}
 use Rattle.definition.proofs.Records.{record-length}
 use Rattle.definition.proofs.Items.{absent, used-append, used-stored}
-use Rattle.definition.proofs.Image.{records-length, records-append, used-fits, good-is-rendered, room-parts, remove-items, remove-good, remove-length, store-good, store-room, store-full}
+use Rattle.definition.proofs.Image.{records-length, records-append, used-fits, good-is-rendered, room-parts, remove-items, remove-good, remove-length, store-good, store-items, store-room, store-full}
 use Rattle.slices.specs.Written.{written}
-use Rattle.region.specs.Places.{placeOf}
+use Rattle.region.specs.Places.{placeOf, spanFound}
 use Rattle.records.specs.Taken.{without}
-use Rattle.region.specs.Changes.{Now, Stores, storedBy}
+use Rattle.region.specs.Changes.{Now, Removes, Stores, storedBy, userCount}
 use Rattle.region.specs.declared.Found.the-variants as F
 use Rattle.region.specs.declared.Stored.the-variants.{Done, Full}
-use Rattle.region.proofs.Finding.{split, nowhere}
+use Rattle.region.proofs.Finding.{split, nowhere, room-found}
+use Rattle.region.proofs.Holding.{takes-left, takes-stored, held, used-is, takes-is}
 
 -- ---- `remove`
 
@@ -53,9 +54,9 @@ without-item len a c i h =
     ∙ sym (ap (λ (l : Bytes). l ++ replicate n 255) (records-append a c) ∙ append-assoc (records a) (records c) (replicate n 255))
 
 module _ (s key : Bytes) (g : good s ≡ true) where
-  pub removes : {b : Bytes} (at k v : ℕ) {n : ℕ} → placeOf 0 key (items s) ≡ F.At at k v → n ≡ span k v → b ≡ without s at n → Now b (removeIn key s)
+  taken : {b : Bytes} (at k v : ℕ) {n : ℕ} → placeOf 0 key (items s) ≡ F.At at k v → n ≡ span k v → b ≡ without s at n → Now b (removeIn key s)
   unfolding removeIn spanOf
-  removes {b} at k v {n} e en eb =
+  taken {b} at k v {n} e en eb =
       let r = split key (items s) 0 at k v e in
       let is = r .items-are in
       let es : s ≡ render (length s) (r .before ++ r .it ∷ r .after) = good-is-rendered s g ∙ ap (render (length s)) is in
@@ -68,10 +69,29 @@ module _ (s key : Bytes) (g : good s ≡ true) where
       ∙ without-item (length s) (r .before) (r .after) (r .it) fits ∙ ap (render (length s)) (sym (r .stay)) in
       record { fine = ap good eq ∙ remove-good s g key; is = eq }
 
-  pub removes-nothing : placeOf 0 key (items s) ≡ F.Nothing → Now s (removeIn key s)
+  pub removes-nothing : {n : Space} → n ≡ spaceOf s → placeOf 0 key (items s) ≡ F.Nothing → Removes key s s n
   unfolding removeIn
-  removes-nothing e =
-      record { fine = g; is = good-is-rendered s g ∙ ap (render (length s)) (sym (absent key (items s) (nowhere key (items s) 0 e) .1)) }
+  removes-nothing en e =
+      let is = good-is-rendered s g ∙ ap (render (length s)) (sym (absent key (items s) (nowhere key (items s) 0 e) .1)) in
+      record { now = record { fine = g; is = is }; space = en }
+
+  -- what is left is reckoned from what was there
+  module _ (at k v : ℕ) (e : placeOf 0 key (items s) ≡ F.At at k v) {n : ℕ} (en : n ≡ span k v) {m : Space} (em : m ≡ spaceOf s) where
+    used-less : m .used ≡ used (removed key (items s)) + n
+    unfolding spanFound
+    used-less = used-is s em ∙ room-found key (items s) (F.At at k v) (sym e) en
+
+    takes-less : m .takes ≡ takes (removed key (items s)) + userCount key
+    takes-less = takes-is s em ∙ takes-left key (items s) at k v e
+
+    pub enough : (n ≤ m .used) × (m .used ≤ length s) × (userCount key ≤ m .takes)
+    enough = (omega (arith, used-less), omega (arith, used-is s em, used-fits s), omega (arith, takes-less))
+
+    pub removes : {b : Bytes} {u : ℕ} → u ≡ userCount key → b ≡ without s at n
+        → Removes key s b (record { used = m .used - n; free = length b - (m .used - n); takes = m .takes - u })
+    removes {b} eu eb =
+        let w = taken at k v e en eb in
+        record { now = w; space = held b (ap items (w .is) ∙ remove-items s g key) (omega (arith, used-less)) (omega (arith, takes-less)) }
 
 -- ---- `store`
 
@@ -97,7 +117,14 @@ written-item len a i =
     (ap (λ (x : ℕ). drop x (replicate m 255)) (record-length i) ∙ drop-replicate (spanOf i) m 255 ∙ ap (λ (x : ℕ). replicate x 255) e)
     ∙ sym (ap (λ (l : Bytes). l ++ replicate (len - used (a ++ (i ∷ []))) 255) (records-append a (i ∷ [])) ∙ simp (append-nil, append-assoc))
 
--- the room rule, from the walks that `has_room` makes: the used bytes, and those of the old record
+-- the room rule with no sum of its own
+pub room-rest : (end new len : ℕ) → end ≤ len → leb new (len - end) ≡ leb (end + new) len
+room-rest end new len h =
+    bool (leb new (len - end))
+    (λ t. t ∙ sym (le-leb (end + new) len (omega (arith, leb-true new (len - end) t))))
+    (λ f. f ∙ sym (lt-leb (end + new) len (omega (arith, leb-false new (len - end) f))))
+
+-- the room rule, from the used bytes and those of the old record
 pub room-is : (len : ℕ) (i : Item) (is : List Item) {all : ℕ} (old : ℕ) {new : ℕ} → all ≡ used is → used is ≡ used (removed (i .key) is) + old → new ≡ spanOf i
     → leb (all - old + new) len ≡ room len i is
 unfolding room
@@ -117,23 +144,30 @@ module _ (s : Bytes) (i : Item) (g : good s ≡ true) (ok : allowed (length (i .
       let n : roomIn i s ≡ false = sym said ∙ not-true y f in
       record { answer = sym (ap (λ (y : Bool). storedBy y (spaceOf s)) n); now = record { fine = g; is = sym (store-full i s n) } }
 
-  module _ (t : not y ≡ false) {b : Bytes} (h : Now b (removeIn (i .key) s)) {end : ℕ} (ee : end ≡ used (items b)) where
+  module _ (t : not y ≡ false) {b : Bytes} {m : Space} (h : Removes (i .key) s b m) where
     roomy : roomIn i s ≡ true
     roomy = sym said ∙ not-false y t
 
-    end-is : end ≡ used (removed (i .key) (items s))
-    end-is = ee ∙ ap used (ap items (h .is) ∙ remove-items s g (i .key))
+    left-are : items b ≡ removed (i .key) (items s)
+    left-are = ap items (h .now .is) ∙ remove-items s g (i .key)
 
-    pub fits : end + spanOf i ≤ length b
-    fits =
-        let l : length b ≡ length s = ap length (h .is) ∙ remove-length (i .key) s in
+    end-is : m .used ≡ used (removed (i .key) (items s))
+    end-is = used-is b (h .space) ∙ ap used left-are
+
+    pub fits : {n : ℕ} → n ≡ spanOf i → m .used + n ≤ length b
+    fits en =
+        let l : length b ≡ length s = ap length (h .now .is) ∙ remove-length (i .key) s in
         let e = end-is in
         omega (arith, used-stored i (items s), room-parts i s roomy .1)
 
-    pub stores : {c : Bytes} {n : Space} → c ≡ written b end (recordOf i) → n ≡ spaceOf c → Stores i s c (Done n)
+    pub stores : {c : Bytes} {n u : ℕ} → c ≡ written b (m .used) (recordOf i) → n ≡ spanOf i → u ≡ userCount (i .key)
+        → Stores i s c (Done (record { used = m .used + n; free = length c - (m .used + n); takes = m .takes + u }))
     unfolding storedBy removeIn stored
-    stores {c} f en =
+    stores {c} {n} {u} f en eu =
         let eq : c ≡ storeIn i s =
-        f ∙ ap₂ (λ (x : Bytes) (n : ℕ). written x n (recordOf i)) (h .is) end-is
+        f ∙ ap₂ (λ (x : Bytes) (n : ℕ). written x n (recordOf i)) (h .now .is) end-is
         ∙ written-item (length s) (removed (i .key) (items s)) i ∙ sym (store-room i s roomy) in
-        record { answer = ap Done en ∙ sym (ap (λ (y : Bool). storedBy y (spaceOf c)) roomy); now = record { fine = ap good eq ∙ store-good s g i; is = eq } }
+        let there = ap items eq ∙ store-items s g i roomy in
+        let used-now : m .used + n ≡ used (stored i (items s)) = omega (arith, end-is, used-stored i (items s)) in
+        let takes-now : m .takes + u ≡ takes (stored i (items s)) = omega (arith, takes-is b (h .space), ap takes left-are, takes-stored i (items s)) in
+        record { answer = ap Done (held c there used-now takes-now) ∙ sym (ap (λ (y : Bool). storedBy y (spaceOf c)) roomy); now = record { fine = ap good eq ∙ store-good s g i; is = eq } }

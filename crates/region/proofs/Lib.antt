@@ -3,5 +3,6 @@ pub mod Heads
 pub mod Walks
 pub mod Answers
 pub mod Finding
+pub mod Holding
 pub mod Journals
 pub mod Changing

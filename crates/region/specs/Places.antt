@@ -3,7 +3,7 @@
 use mathlib.Core.Path.{_≡_}
 use mathlib.Core.List.{List, [], _∷_}
 use mathlib.Core.Option.{Option, none, some}
-use Prim.Native.Nat.{ℕ, _+_, _≤_}
+use Prim.Native.Nat.{ℕ, _+_, _≤_, _<_}
 use lib.ListN.{length, take, drop}
 use Rattle.definition.specs.Tools.{Bytes, pick}
 use Rattle.definition.specs.Region.{Item, item, hasKey, headSize, keyLimit, itemLimit, span, spanOf, headOf, items, look}
@@ -48,6 +48,16 @@ pub record Visit (s : Bytes) (at : ℕ) (r : Next) : Type 0 where
 unfoldable pub placeOf : ℕ → Bytes → List Item → Found
 placeOf at k [] = F.Nothing
 placeOf at k (i ∷ is) = pick (hasKey k i) (F.At at (length (i .key)) (length (i .value))) (placeOf (at + spanOf i) k is)
+
+-- the lengths of the record that was found are such as a record can have
+abbrev pub Short : Found → Type 0
+Short (F.At at k v) = (k < 256) × (v < 65536)
+Short F.Nothing = Unit {0}
+
+-- the room that it takes, or 0
+unfoldable pub spanFound : Found → ℕ
+spanFound (F.At at k v) = span k v
+spanFound F.Nothing = 0
 
 -- ---- a part of the bytes
 

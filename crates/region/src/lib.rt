@@ -13,13 +13,14 @@ pub use records::span;
 ghost use mathlib.Core.Path.{_≡_};
 ghost use mathlib.Core.Bool.{true};
 ghost use Prim.Native.Nat.{_+_, _-_, _≤_};
+ghost use lib.Dec.{leb};
 ghost use lib.ListN.{length, drop};
 ghost use Rattle.definition.specs.Region;
-ghost use Rattle.definition.specs.Region.{item, distinct, removed, allowed, items, whole, good, room, removeIn};
+ghost use Rattle.definition.specs.Region.{item, distinct, allowed, items, whole, good};
 ghost use Rattle.definition.specs.Space.{spaceOf};
 ghost use Rattle.definition.specs.Recovery.{isJournal};
-ghost use Rattle.region.specs.Places.{Visit, placeOf, keyAt, valueAt, Fetched, FirstJournal};
-ghost use Rattle.region.specs.Changes.{Now, Removes, Stores, userCount};
+ghost use Rattle.region.specs.Places.{Visit, placeOf, Short, spanFound, keyAt, valueAt, Fetched, FirstJournal};
+ghost use Rattle.region.specs.Changes.{Removes, Stores, userCount};
 
 // What a walk meets at a place: a record's key length, value length and the next place; or the walk is over.
 pub enum Next {
@@ -270,16 +271,45 @@ pub fn first_journal(region: &[u8]) -> Spot
 
 // ---- the item calls that write
 
-// Drops the record with a key and closes the gap; an absent key changes nothing.
-fn drop_record(region: &mut [u8], key: &[u8])
-    requires { ⌜ good (now region) ≡ true ⌝ }
-    ensures { λ _. ⌜ Now (now (region .exit)) (removeIn (now (key .entry)) (now (region .entry))) ⌝ }
+// The room that a record takes that was looked for, or 0.
+fn old_span(found: Found) -> usize
+    requires { ⌜ Short found ⌝ }
+    ensures { λ r. ⌜ r ≡ spanFound found ⌝ }
 {
-    let Found::At(at, klen, vlen) = find(region, key) else {
-        return;
+    let Found::At(_, klen, vlen) = found else {
+        return 0;
     };
-    let n = span(klen, vlen);
-    records::cut(region, at, n);
+    span(klen, vlen)
+}
+
+// The room rule, in one place: "Full exactly if used bytes, less the old record, plus the new one exceed L." No sum, so that none wraps.
+fn has_room(used: usize, old: usize, new: usize, len: usize) -> bool
+    requires { ⌜ (old ≤ used) × (used ≤ len) ⌝ }
+    ensures { λ r. ⌜ r ≡ leb (used - old + new) len ⌝ }
+{
+    let end = used - old;
+    new <= len - end
+}
+
+// Drops the record that was found under a key and closes the gap; none found changes nothing. What the region then holds is reckoned from
+// what it held, so that no walk is made for it.
+fn drop_found(region: &mut [u8], key: &[u8], before: Space, found: Found) -> Space
+    requires { ⌜ good (now region) ≡ true ⌝ }
+    requires { ⌜ before ≡ spaceOf (now region) ⌝ }
+    requires { ⌜ found ≡ placeOf 0 (now key) (items (now region)) ⌝ }
+    ensures { λ r. ⌜ Removes (now (key .entry)) (now (region .entry)) (now (region .exit)) r ⌝ }
+{
+    let Found::At(at, klen, vlen) = found else {
+        return before;
+    };
+    let old = span(klen, vlen);
+    records::cut(region, at, old);
+    let end = before.used - old;
+    Space {
+        used: end,
+        free: region.len() - end,
+        takes: before.takes - user_count(key),
+    }
 }
 
 // Drops the record with a key, and says what the region then holds.
@@ -287,27 +317,9 @@ pub fn remove(region: &mut [u8], key: &[u8]) -> Space
     requires { ⌜ good (now region) ≡ true ⌝ }
     ensures { λ r. ⌜ Removes (now (key .entry)) (now (region .entry)) (now (region .exit)) r ⌝ }
 {
-    drop_record(region, key);
-    space(region)
-}
-
-// The room that the record with a key takes, or 0.
-fn old_span(region: &[u8], key: &[u8]) -> usize
-    ensures { λ r. ⌜ Region.used (items (now (region .entry))) ≡ Region.used (removed (now (key .entry)) (items (now (region .entry)))) + r ⌝ }
-{
-    let Found::At(_, klen, vlen) = find(region, key) else {
-        return 0;
-    };
-    span(klen, vlen)
-}
-
-// Whether there is room for a record: "Full exactly if used bytes, less the old record, plus the new one exceed L."
-fn has_room(region: &[u8], key: &[u8], value: &[u8]) -> bool
-    requires { ⌜ allowed (length (now key)) (length (now value)) ≡ true ⌝ }
-    ensures { λ r. ⌜ r ≡ room (length (now (region .entry))) (item (now (key .entry)) (now (value .entry))) (items (now (region .entry))) ⌝ }
-{
-    let end = used(region) - old_span(region, key);
-    end + span(key.len(), value.len()) <= region.len()
+    let before = space(region);
+    let found = find(region, key);
+    drop_found(region, key, before, found)
 }
 
 // Drops the record with the key, closes the gap and appends the new one, if there is room for it then.
@@ -316,11 +328,20 @@ pub fn store(region: &mut [u8], key: &[u8], value: &[u8]) -> Stored
     requires { ⌜ allowed (length (now key)) (length (now value)) ≡ true ⌝ }
     ensures { λ r. ⌜ Stores (item (now (key .entry)) (now (value .entry))) (now (region .entry)) (now (region .exit)) r ⌝ }
 {
-    if !has_room(region, key, value) {
+    let before = space(region);
+    let found = find(region, key);
+    let old = old_span(found);
+    let new = span(key.len(), value.len());
+    if !has_room(before.used, old, new, region.len()) {
         return Stored::Full;
     }
-    drop_record(region, key);
-    let end = used(region);
+    let kept = drop_found(region, key, before, found);
+    let end = kept.used;
     put_record(region, end, key, value);
-    Stored::Done(space(region))
+    let used = end + new;
+    Stored::Done(Space {
+        used: used,
+        free: region.len() - used,
+        takes: kept.takes + user_count(key),
+    })
 }

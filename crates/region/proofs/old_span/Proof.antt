@@ -1,27 +1,25 @@
+use mathlib.Core.Path.{sym, ap, subst, _∙_}
+use Rattle.region.specs.Places.{Short, spanFound}
 use borrow.Author.Needs.{needs}
-use mathlib.Core.Path.{sym, _∙_}
-use Rattle.region.proofs.Finding.{located, room-left, room-kept}
 use Rattle.region.proofs.old_span.Statement.{statement}
 use Rattle.region.proofs.old_span.Tie as tie
 
-find-requires : tie.Need-find-requires
-find-requires c κs = search needs
-
-enum-known-klen : tie.Need-enum-known-klen
-enum-known-klen c = search needs
+enum-known-found : tie.Need-enum-known-found
+enum-known-found c = search needs
 
 enum-told : tie.Need-enum-told
 enum-told c = search needs
 
 returns : tie.Need-returns
-returns c = room-kept _ _ (sym (c .before .before .find .ensures) ∙ c .enum-told .given .1)
+unfolding spanFound
+returns c = sym (ap spanFound (c .enum-told .given .1))
 
 span-requires : tie.Need-span-requires
-span-requires c κs = let m = located _ _ _ _ _ (sym (c .before .before .before .find .ensures) ∙ c .before .klen .given .1) .met in search needs
+span-requires c κs = subst Short (c .before .found .given .1) (c .before .before .before .pre)
 
 returns-2 : tie.Need-returns-2
-returns-2 c = let k = c .before in room-left _ _ _ _ _ (sym (k .before .before .before .find .ensures) ∙ k .before .klen .given .1) (c .span .ensures)
+unfolding spanFound
+returns-2 c = c .span .ensures ∙ sym (ap spanFound (c .before .before .found .given .1))
 
 pub old-span-spec : {M : Type 1} → statement M
-old-span-spec =
-    tie.close (tie.spec find-requires enum-known-klen enum-told returns span-requires returns-2)
+old-span-spec = tie.close (tie.spec enum-known-found enum-told returns span-requires returns-2)
