@@ -5,6 +5,7 @@ ghost use mathlib.Core.Path.{_≡_};
 ghost use Rattle.definition.specs.Codec;
 ghost use Rattle.definition.specs.Codec.{journalKey, marker, markerKey};
 ghost use Rattle.definition.specs.Recovery.{tooMany};
+ghost use Rattle.definition.specs.Space.{userCount};
 ghost use Rattle.marks.specs.Forms.{MarkerReads};
 
 // Whether a key is a bookkeeping key.
@@ -15,6 +16,16 @@ pub fn reserved(key: &[u8]) -> bool
         return false;
     }
     key[0] == 0
+}
+
+// How many user records a record with this key is: request C-11 counts them.
+pub fn user_count(key: &[u8]) -> usize
+    ensures { λ r. ⌜ r ≡ userCount (now (key .entry)) ⌝ }
+{
+    if reserved(key) {
+        return 0;
+    }
+    1
 }
 
 pub fn marker_key() -> [u8; 2]

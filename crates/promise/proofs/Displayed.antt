@@ -1,13 +1,12 @@
 -- C-11, proved: the numbers in a state are those of its region, from the last mount tried on.
 use mathlib.Core.Path.{_≡_, refl, sym, ap, _∙_, subst}
 use mathlib.Core.List.{[]}
-use mathlib.Core.Option.{Option, none, some}
+use mathlib.Core.Option.{some}
 use Prim.Native.Nat.{ℕ}
 use lib.ListN.{length}
 use Rattle.definition.specs.Tools.{Bytes, pick, opt}
 use Rattle.definition.specs.Region.{good}
 use Rattle.definition.specs.Space.{spaceOf}
-use Rattle.definition.specs.OperationList.{opsOf, opsOver}
 use Rattle.definition.specs.Program.{Prog, World, world, Result, exec, flat}
 use Rattle.definition.specs.Calls.{Said, regionFault}
 use Rattle.definition.specs.Scan.{rising}
@@ -19,9 +18,9 @@ use Rattle.definition.specs.declared.Answer.{Answer}
 use Rattle.definition.specs.declared.Answer.the-variants.{Ok, Refused}
 use Rattle.definition.proofs.Choices.{bool, opt-to}
 use Rattle.reasons.proofs.StandsFor.{none≢some}
-use Rattle.promise.specs.Run.{Source, fromList, fromPool, batched, Call, rescript, mount, get, contains, put, delete, applyBatch, scanPrefix, Heard, Moment, Turn, made, stateAfter, mounting, turn}
-use Rattle.promise.specs.Display.{Reached, tried, called, Displayed}
-use Rattle.reasons.proofs.Counting.{Honest, True, TrueAfter, well, ill, exec-true, gets, containses, puts, deletes, batches-of, mounts, scans}
+use Rattle.promise.specs.Run.{Source, fromList, fromPool, batched, Call, rescript, mount, get, contains, put, delete, applyBatch, scanPrefix, Moment, made, stateAfter, mounting, turn}
+use Rattle.promise.specs.Display.{tried, called, Displayed}
+use Rattle.reasons.proofs.Counting.{Honest, TrueAfter, well, ill, exec-true, gets, containses, puts, deletes, batches-of, mounts, scans}
 
 -- the numbers that a call leaves are those of the region that it leaves
 record Fits {A : Type 0} (r : Outcome A) : Type 0 where

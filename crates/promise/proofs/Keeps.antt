@@ -1,6 +1,6 @@
 -- Every call on a region that stands for a plain map is answered as the map may answer it, and leaves a region that stands for the map after it.
 use mathlib.Core.Path.{_≡_, refl, sym, ap, _∙_, subst}
-use mathlib.Core.Bool.{Bool, true, false}
+use mathlib.Core.Bool.{true}
 use mathlib.Core.List.{List, [], _∷_}
 use mathlib.Core.Option.{Option, none, some}
 use Prim.Native.Nat.{ℕ}
@@ -20,7 +20,6 @@ use Rattle.definition.specs.declared.State.{State}
 use Rattle.definition.specs.declared.Step as Declared
 use Rattle.definition.specs.declared.Fault.{Fault}
 use Rattle.definition.specs.declared.Health.{Health}
-use Rattle.definition.specs.declared.Health.the-variants.{Pending}
 use Rattle.definition.specs.declared.Answer.{Answer}
 use Rattle.definition.specs.declared.Answer.the-variants.{Refused}
 use Rattle.definition.specs.declared.GetAnswer.{GetAnswer}

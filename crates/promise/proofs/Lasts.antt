@@ -19,7 +19,6 @@ use Rattle.definition.specs.Public as Public
 use Rattle.definition.specs.declared.State.{State}
 use Rattle.definition.specs.declared.Step.{Step}
 use Rattle.definition.specs.declared.Fault.{Fault}
-use Rattle.definition.specs.declared.Health.the-variants as H
 use Rattle.definition.specs.declared.Verdict.the-variants.{Pass}
 use Rattle.definition.specs.declared.Answer.{Answer}
 use Rattle.definition.specs.declared.Answer.the-variants.{Refused}

@@ -11,7 +11,7 @@ use lib.ListN.{length, drop, replicate, replicate-append-replicate}
 use lib.Seq.{take-append-seam, drop-append-seam, drop-append-add}
 use Rattle.definition.specs.Tools.{Bytes}
 use Rattle.definition.specs.Region.{Item, removed, stored, span, spanOf, recordOf, allowed, good, items, used, records, render, room, removeIn, roomIn, storeIn}
-use Rattle.definition.specs.Space.{takes, spaceOf}
+use Rattle.definition.specs.Space.{userCount, takes, spaceOf}
 use Rattle.definition.specs.declared.Space.{Space}
 use Rattle.definition.proofs.Choices.{pick-yes, bool}
 use Rattle.definition.proofs.Records.{record-length}
@@ -20,7 +20,7 @@ use Rattle.definition.proofs.Image.{records-length, records-append, used-fits, 
 use Rattle.slices.specs.Written.{written}
 use Rattle.region.specs.Places.{placeOf, spanFound}
 use Rattle.records.specs.Taken.{without}
-use Rattle.region.specs.Changes.{Now, Removes, Stores, storedBy, userCount}
+use Rattle.region.specs.Changes.{Now, Removes, Stores, storedBy}
 use Rattle.region.specs.declared.Found.the-variants as F
 use Rattle.region.specs.declared.Stored.the-variants.{Done, Full}
 use Rattle.region.proofs.Finding.{split, nowhere, room-found}

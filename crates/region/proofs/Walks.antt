@@ -15,9 +15,8 @@ use Rattle.definition.proofs.Choices.{pick-yes, pick-no, bool}
 use Rattle.definition.proofs.Records.{span-holds, bounded, record-sound, head-end, end-blank}
 use Rattle.definition.proofs.Image.{items-record, whole-record, whole-end, whole-bad}
 use Rattle.definition.specs.Codec.{reserved}
-use Rattle.definition.specs.Space.{takes, spaceOf}
+use Rattle.definition.specs.Space.{userCount, takes, spaceOf}
 use Rattle.region.specs.Places.{keyAt, valueAt, Met, placeOf}
-use Rattle.region.specs.Changes.{userCount}
 use Rattle.region.specs.declared.Found.the-variants as F
 
 -- ---- a visit
@@ -81,10 +80,8 @@ module _ {s : Bytes} {at k v n : ℕ} (m : Met s at k v n) where
   met-count c = ap (λ (l : List Item). c + length l) (m .left) ∙ omega arith
 
   pub met-takes : {u : ℕ} (c : ℕ) → u ≡ userCount (keyAt s at k) → c + takes (items (drop at s)) ≡ c + u + takes (items (drop n s))
-  unfolding takes userCount pick
-  met-takes {u} c e =
-      ap (λ (l : List Item). c + takes l) (m .left)
-      ∙ bool (reserved (keyAt s at k)) (λ y. rw (e, y) (omega arith)) (λ y. rw (e, y) (omega arith))
+  unfolding takes
+  met-takes {u} c e = ap (λ (l : List Item). c + takes l) (m .left) ∙ omega arith
 
   -- the place of a key: here, or further on
   module _ (key : Bytes) {b : Bool} {part : Bytes} (ep : part ≡ keyAt s at k) (eb : b ≡ eqs part key) where

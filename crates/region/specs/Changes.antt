@@ -1,10 +1,8 @@
 -- What the region's two item calls that write leave: document 01's `storeIn` and `removeIn`, and a good image.
 use mathlib.Core.Path.{_≡_}
 use mathlib.Core.Bool.{Bool, true, false}
-use Prim.Native.Nat.{ℕ}
-use Rattle.definition.specs.Tools.{Bytes, pick}
+use Rattle.definition.specs.Tools.{Bytes}
 use Rattle.definition.specs.Region.{Item, good, roomIn, storeIn, removeIn}
-use Rattle.definition.specs.Codec.{reserved}
 use Rattle.definition.specs.Space.{spaceOf}
 use Rattle.definition.specs.declared.Space.{Space}
 use Rattle.region.specs.declared.Stored.{Stored}
@@ -29,7 +27,3 @@ storedBy false n = Full
 pub record Stores (i : Item) (s b : Bytes) (r : Stored) : Type 0 where
   pub answer : r ≡ storedBy (roomIn i s) (spaceOf b)
   pub now : Now b (storeIn i s)
-
--- how many user records a record with this key is
-unfoldable pub userCount : Bytes → ℕ
-userCount k = pick (reserved k) 0 1

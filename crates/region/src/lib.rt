@@ -20,7 +20,7 @@ ghost use Rattle.definition.specs.Region.{item, distinct, allowed, items, whole
 ghost use Rattle.definition.specs.Space.{spaceOf};
 ghost use Rattle.definition.specs.Recovery.{isJournal};
 ghost use Rattle.region.specs.Places.{Visit, placeOf, Short, spanFound, keyAt, valueAt, Fetched, FirstJournal};
-ghost use Rattle.region.specs.Changes.{Removes, Stores, userCount};
+ghost use Rattle.region.specs.Changes.{Removes, Stores};
 
 // What a walk meets at a place: a record's key length, value length and the next place; or the walk is over.
 pub enum Next {
@@ -208,16 +208,6 @@ pub fn count(region: &[u8]) -> usize
     }
 }
 
-// How many user records a record with this key is.
-fn user_count(key: &[u8]) -> usize
-    ensures { λ r. ⌜ r ≡ userCount (now (key .entry)) ⌝ }
-{
-    if marks::reserved(key) {
-        return 0;
-    }
-    1
-}
-
 // What the region holds, in one walk.
 pub fn space(region: &[u8]) -> Space
     ensures { λ r. ⌜ r ≡ spaceOf (now (region .entry)) ⌝ }
@@ -232,7 +222,7 @@ pub fn space(region: &[u8]) -> Space
                 takes: takes,
             };
         };
-        takes += user_count(key_at(region, at, klen));
+        takes += marks::user_count(key_at(region, at, klen));
         at = next;
     }
 }
@@ -308,7 +298,7 @@ fn drop_found(region: &mut [u8], key: &[u8], before: Space, found: Found) -> Spa
     Space {
         used: end,
         free: region.len() - end,
-        takes: before.takes - user_count(key),
+        takes: before.takes - marks::user_count(key),
     }
 }
 
@@ -342,6 +332,6 @@ pub fn store(region: &mut [u8], key: &[u8], value: &[u8]) -> Stored
     Stored::Done(Space {
         used: used,
         free: region.len() - used,
-        takes: kept.takes + user_count(key),
+        takes: kept.takes + marks::user_count(key),
     })
 }

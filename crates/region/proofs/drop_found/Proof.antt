@@ -4,7 +4,7 @@ use Prim.Native.Nat.{_≤_}
 use lib.ListN.{length}
 use Rattle.definition.specs.Region.{items}
 use Rattle.region.specs.Places.{placeOf}
-use Rattle.region.specs.Changes.{userCount}
+use Rattle.definition.specs.Space.{userCount}
 use Rattle.region.specs.declared.Found.the-variants.{At}
 use Rattle.region.proofs.Finding.{located}
 use Rattle.region.proofs.Changing.{removes, removes-nothing, enough}

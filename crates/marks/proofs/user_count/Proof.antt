@@ -1,9 +1,9 @@
 use borrow.Author.Needs.{needs}
 use mathlib.Core.Path.{sym, _∙_}
-use Rattle.region.specs.Changes.{userCount}
+use Rattle.definition.specs.Space.{userCount}
 use Rattle.definition.proofs.Choices.{pick-yes, pick-no}
-use Rattle.region.proofs.user_count.Statement.{statement}
-use Rattle.region.proofs.user_count.Tie as tie
+use Rattle.marks.proofs.user_count.Statement.{statement}
+use Rattle.marks.proofs.user_count.Tie as tie
 
 reserved-requires : tie.Need-reserved-requires
 reserved-requires c κs = search needs
