@@ -117,7 +117,7 @@ written-item len a i =
     (ap (λ (x : ℕ). drop x (replicate m 255)) (record-length i) ∙ drop-replicate (spanOf i) m 255 ∙ ap (λ (x : ℕ). replicate x 255) e)
     ∙ sym (ap (λ (l : Bytes). l ++ replicate (len - used (a ++ (i ∷ []))) 255) (records-append a (i ∷ [])) ∙ simp (append-nil, append-assoc))
 
--- the room rule with no sum of its own
+-- the test of the room with no sum in it
 pub room-rest : (end new len : ℕ) → end ≤ len → leb new (len - end) ≡ leb (end + new) len
 room-rest end new len h =
     bool (leb new (len - end))

@@ -261,7 +261,7 @@ pub fn first_journal(region: &[u8]) -> Spot
 
 // ---- the item calls that write
 
-// The room that a record takes that was looked for, or 0.
+// The room of the record that was looked for, or 0 if there is none.
 fn old_span(found: Found) -> usize
     requires { ⌜ Short found ⌝ }
     ensures { λ r. ⌜ r ≡ spanFound found ⌝ }
