@@ -19,6 +19,7 @@ ghost use Rattle.definition.specs.Public;
 ghost use Rattle.exports.specs.Forms.{healthNumber, healthOf, flagNumber, stateIn, spaceOut, built, refused, answerOut, getOut, truthOut, endOut, scanOut, Replies, Gets, Truths, Lists};
 
 // What a host keeps: health 0 Clean, 1 Debris, 2 Pending; the place in the script; whether the power is cut; the bytes used and free, and the takes.
+// Every number has a meaning: any other health is Pending, which recovers before anything is read, and any cut but 0 is a cut that stands.
 #[repr(C)]
 pub struct CState {
     pub health: u64,
@@ -30,7 +31,8 @@ pub struct CState {
 }
 
 // What a host hears. answer: 0 refused, with document 01's number and values; 1 Ok, found, yes or finished; 2 absent, no or stopped; 3 no room.
-// length: bytes in the output; count: records in it.
+// length: bytes in the output; count: records in it. The six numbers from health to takes are the state to keep: handed back as a CState they are the
+// very state that the call left (proofs/HandedBack), so that what is promised of the calls is promised to a host.
 #[repr(C)]
 pub struct CReply {
     pub answer: u64,

@@ -10,6 +10,7 @@ use lib.ListN.{length, getD}
 use lib.Dec.{ltb}
 use borrow.Author.Tests.{ltb-true, eq-eqb, ne-eqb}
 use Rattle.definition.specs.Tools.{Bytes, pick, opt}
+use Rattle.definition.specs.Region.{good}
 use Rattle.definition.specs.Script.{byteFate, fate, stepped}
 use Rattle.definition.specs.Program.{Prog, world, exec, flat}
 use Rattle.definition.specs.Calls.{Said, regionFault}
@@ -27,15 +28,15 @@ use Rattle.definition.specs.declared.TruthAnswer.the-variants as Truth
 use Rattle.definition.proofs.Choices.{pick-yes, pick-no, bool, opt-none}
 use Rattle.reasons.proofs.Ensures.{Ensures, Ends, Obeys, exec-ensures}
 use Rattle.reasons.proofs.FlatLaws.{flat-laws}
+use Rattle.reasons.proofs.StandsFor.{none≢some}
 use Rattle.reasons.proofs.Recovers.{by-fate, no-room}
 use Rattle.reasons.proofs.Answers as Answers
 use Rattle.reasons.proofs.Answers.{Never}
 use Rattle.promise.specs.Run.{mount, contains, answered, told, Moment, made, mounting, turn, later}
-use Rattle.promise.specs.Promise.{Plain, plainOf}
-use Rattle.promise.specs.Beside.{Calm, Responds, ok, full, yes, no, full-told, LastSentence}
+use Rattle.promise.specs.Promise.{Plain, plainOf, Calm, Responds, fine, full, yes, no, full-told, LastSentence}
 use Rattle.promise.proofs.AtBytes.{base, Standing, Whichever, Holds, whichever, image-good, on-public}
 use Rattle.promise.proofs.Keeps.{run-holds}
-use Rattle.promise.proofs.Promised.{started, lent-whole}
+use Rattle.promise.proofs.Promised.{bad-unmounted, started, lent-whole}
 
 abbrev NoFault : Fault → Type 0
 NoFault f = ⊥
@@ -81,7 +82,7 @@ module _ (len : ℕ) where
   contains-responds (Answers.contains-failed (no-room x) m) = full-told
 
   mount-responds : {A : Plain} {r : Said Answer} {s : Bytes} → Answers.MountSays flat flat-laws base len NoFault A r s → Responds (answered (r .answer))
-  mount-responds (Answers.mount-done m) = ok
+  mount-responds (Answers.mount-done m) = fine
   mount-responds (Answers.mount-failed (by-fate x) m) = absurd x
   mount-responds (Answers.mount-failed (no-room x) m) = full
 
@@ -113,9 +114,12 @@ module _ (len : ℕ) where
     mount-turn start at e c = mount-lasts A (m .region) (m .script) start at (whichever len (m .newest) h) e c
 
 pub last-sentence : LastSentence
-last-sentence m s g run =
-    let (A, h) = run-holds (length (m .region)) run (plainOf m) m (started m s g) in (
-      contains-turn (length (m .region)) (later run m) A h,
-      λ start at e. mount-turn (length (m .region)) (later run m) A h start at
-          (subst (λ (l : ℕ). regionFault start l ≡ none) (sym (lent-whole m s run)) e),
+last-sentence m s run =
+    let len : ℕ = length (m .region) in (
+      -- what is no good image is never mounted, so that there is no state to ask with
+      λ st key e u c. bool (good (m .region))
+          (λ g. let (A, h) = run-holds len run (plainOf m) m (started m s g) in contains-turn len (later run m) A h st key e u c)
+          (λ g. absurd (none≢some (sym (bad-unmounted (plainOf m) run m (s .unmounted) g) ∙ e))),
+      λ start at g e. let (A, h) = run-holds len run (plainOf m) m (started m s g) in
+          mount-turn len (later run m) A h start at (subst (λ (l : ℕ). regionFault start l ≡ none) (sym (lent-whole m s run)) e),
     )

@@ -6,4 +6,5 @@ pub mod Lasts
 pub mod Listed
 pub mod Example
 pub mod Needed
-pub mod Displayed
+pub mod Wrong
+pub mod TheDisplay

@@ -93,6 +93,12 @@ module _ (A : Plain) where
   bad-later [] m u g = refl
   bad-later (c ∷ run) m u g = let t = bad-stays c m u g in bad-later run (turn c m .next) (t .unmounted) (ap good (t .same) ∙ g) ∙ t .same
 
+  -- and nothing is ever mounted on it
+  pub bad-unmounted : (run : List Call) (m : Moment) → m .newest ≡ none → good (m .region) ≡ false → later run m .newest ≡ none
+  unfolding later
+  bad-unmounted [] m u g = u
+  bad-unmounted (c ∷ run) m u g = let t = bad-stays c m u g in bad-unmounted run (turn c m .next) (t .unmounted) (ap good (t .same) ∙ g)
+
 -- ---- the promise
 
 pub started : (m : Moment) → Start m → good (m .region) ≡ true → Holds (length (m .region)) (m .newest) (plainOf m) (m .region)

@@ -1,29 +1,24 @@
 -- What is proved beside the promise. `Outputs`: what stands in the outputs of scans and refused gets, with the same maps (proofs/Promised).
--- `LentWhole`: the region keeps its length (proofs/Promised). `LastSentence`: once faults stop the store answers (proofs/Lasts).
+-- `LentWhole`: the region keeps its length (proofs/Promised).
 use mathlib.Core.Path.{_≡_}
 use mathlib.Core.Bool.{false, true}
 use mathlib.Core.List.{List, [], _∷_, _++_}
-use mathlib.Core.Option.{none, some}
-use Prim.Native.Nat.{ℕ, _+_, _%_, _≤_, _<_}
-use lib.ListN.{length, getD}
+use mathlib.Core.Option.{none}
+use Prim.Native.Nat.{ℕ, _+_}
+use lib.ListN.{length}
 use lib.Dec.{ltb}
 use Rattle.definition.specs.Tools.{Bytes, pick}
-use Rattle.definition.specs.Region.{Item, fetched, recordOf, records, good}
+use Rattle.definition.specs.Region.{Item, fetched, recordOf, records}
 use Rattle.definition.specs.Codec.{laid}
 use Rattle.definition.specs.Numbers.{getRefusal}
-use Rattle.definition.specs.Calls.{regionFault}
 use Rattle.definition.specs.Scan.{rising, begins, lastOf, beyond}
-use Rattle.definition.specs.declared.State.{State}
 use Rattle.definition.specs.declared.Fault.{Fault}
-use Rattle.definition.specs.declared.Fault.the-variants.{FullStorage}
-use Rattle.definition.specs.declared.Answer.the-variants.{Ok, Refused}
 use Rattle.definition.specs.declared.GetAnswer.{GetAnswer}
 use Rattle.definition.specs.declared.GetAnswer.the-variants as Get
-use Rattle.definition.specs.declared.TruthAnswer.the-variants as Truth
 use Rattle.definition.specs.declared.ScanEnd.{ScanEnd}
 use Rattle.definition.specs.declared.ScanEnd.the-variants as End
 use Rattle.definition.specs.declared.Scanned.{Scanned}
-use Rattle.promise.specs.Run.{Call, mount, get, contains, scanPrefix, Heard, nothing, answered, told, got, listed, scanned, Moment, turn, later}
+use Rattle.promise.specs.Run.{Call, get, scanPrefix, Heard, nothing, answered, told, got, listed, scanned, Moment, turn, later}
 use Rattle.promise.specs.Promise.{Plain, rises, Kept, end, then, Start, plainOf}
 
 -- ---- outputs
@@ -70,27 +65,3 @@ Outputs = (m : Moment) → Start m → (run : List Call) → (kept : Kept (plain
 
 abbrev pub LentWhole : Type 0
 LentWhole = (m : Moment) → Start m → (run : List Call) → length (later run m .region) ≡ length (m .region)
-
--- ---- the last sentence
-
--- faults stop: nothing but passes is left in the script, or it is spent
-abbrev pub Calm : Bytes → ℕ → Type 0
-Calm script at = (i : ℕ) → at ≤ i → i < length script → getD script i 0 % 128 ≡ 0
-
--- yes, no or Ok; or 6
-pub data Responds : Heard → Type 0 where
-  ok : Responds (answered Ok)
-  full : Responds (answered (Refused FullStorage))
-  yes : Responds (told Truth.Yes)
-  no : Responds (told Truth.No)
-  full-told : Responds (told (Truth.Refused FullStorage))
-
--- Once faults stop and no cut stands, the first contains on a mounted store answers, or reports 6; and so does a mount (which lifts a cut) of a region
--- that may be mounted at all.
-abbrev pub LastSentence : Type 0
-LastSentence =
-    (m : Moment) → Start m → good (m .region) ≡ true → (run : List Call)
-    → ((st : State) (key : Bytes) → later run m .newest ≡ some st → st .cut ≡ false → Calm (later run m .script) (st .at)
-    → Responds (turn (contains key) (later run m) .heard))
-    × ((start at : ℕ) → regionFault start (length (m .region)) ≡ none → Calm (later run m .script) at
-    → Responds (turn (mount start at) (later run m) .heard))

@@ -1,5 +1,5 @@
 -- Request C-11, "Show the free room on the box's display": "For any state reached by calls from the last mount tried, on a region nobody else touched,
--- it equals what the walk gives." proofs/Displayed proves it, and with no condition on the region: its image may be bad, and the journal anybody's.
+-- it equals what the walk gives." proofs/TheDisplay proves it, and with no condition on the region: its image may be bad, and the journal anybody's.
 use mathlib.Core.Path.{_≡_}
 use mathlib.Core.Option.{some}
 use Prim.Native.Nat.{ℕ}

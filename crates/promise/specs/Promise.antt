@@ -1,22 +1,25 @@
 -- Demand 3, the promise: whatever is called, whatever faults come, wherever the power is cut and the store mounted again, the answers are those of a
 -- plain map. A run (Run) is any list of calls, new scripts, power cuts and mounts, refused ones included. Each is the definition's public call on
 -- bytes, which the code's contracts cite. The region is lent whole to each, and each is given the newest state: the last mount's, or what followed
--- from it; after a refused mount there is none, and no call is made. The theorem, `Promise`, stands at the end. proofs/Promised proves it,
--- proofs/Example computes such a run, proofs/Needed what goes wrong without the conditions; Beside has what holds besides.
+-- from it; after a refused mount there is none, and no call is made. The theorems stand at the end: `Promise`, which proofs/Promised proves, and
+-- `LastSentence`. proofs/Example computes such a run, proofs/Wrong has programs that the promise refuses, proofs/Needed what goes wrong without the
+-- conditions; Beside has what holds besides.
 use mathlib.Core.Path.{_≡_}
 use mathlib.Core.Logic.{_≢_}
 use mathlib.Core.Bool.{Bool, true, false}
 use mathlib.Core.List.{List, [], _∷_}
 use mathlib.Core.Option.{Option, none, some}
-use Prim.Native.Nat.{ℕ, _≤_}
-use lib.ListN.{length}
+use Prim.Native.Nat.{ℕ, _%_, _≤_, _<_}
+use lib.ListN.{length, getD}
 use Rattle.definition.specs.Tools.{Bytes, pick, eqs}
-use Rattle.definition.specs.Region.{Item, fetched, records, look}
+use Rattle.definition.specs.Region.{Item, fetched, records, look, good}
 use Rattle.definition.specs.Codec.{Op, Put, Delete, reserved, laid}
 use Rattle.definition.specs.Numbers.{number}
+use Rattle.definition.specs.Calls.{regionFault}
 use Rattle.definition.specs.Scan.{rising, begins}
+use Rattle.definition.specs.declared.State.{State}
 use Rattle.definition.specs.declared.Fault.{Fault}
-use Rattle.definition.specs.declared.Fault.the-variants.{BatchCommitted, CommitUncertain}
+use Rattle.definition.specs.declared.Fault.the-variants.{FullStorage, BatchCommitted, CommitUncertain}
 use Rattle.definition.specs.declared.Answer.the-variants.{Ok, Refused}
 use Rattle.definition.specs.declared.GetAnswer.the-variants as Get
 use Rattle.definition.specs.declared.TruthAnswer.the-variants as Truth
@@ -96,3 +99,26 @@ Promise = (m : Moment) → Start m → (run : List Call) → Kept (plainOf m) ru
 
 abbrev pub Never13 : Type 0
 Never13 = (m : Moment) → Start m → (run : List Call) (c : Call) (f : Fault) → refusalOf (turn c (later run m) .heard) ≡ some f → number f ≢ 13
+
+-- ---- THE LAST SENTENCE: once faults stop and no cut stands, the first contains on a mounted store answers, or reports 6; and so does a mount, which
+-- lifts a cut, of a region that may be mounted at all. proofs/Lasts proves it.
+
+-- faults stop: nothing but passes is left in the script, or it is spent
+abbrev pub Calm : Bytes → ℕ → Type 0
+Calm script at = (i : ℕ) → at ≤ i → i < length script → getD script i 0 % 128 ≡ 0
+
+-- yes, no or Ok; or 6
+pub data Responds : Heard → Type 0 where
+  fine : Responds (answered Ok)
+  full : Responds (answered (Refused FullStorage))
+  yes : Responds (told Truth.Yes)
+  no : Responds (told Truth.No)
+  full-told : Responds (told (Truth.Refused FullStorage))
+
+abbrev pub LastSentence : Type 0
+LastSentence =
+    (m : Moment) → Start m → (run : List Call)
+    → ((st : State) (key : Bytes) → later run m .newest ≡ some st → st .cut ≡ false → Calm (later run m .script) (st .at)
+    → Responds (turn (contains key) (later run m) .heard))
+    × ((start at : ℕ) → good (m .region) ≡ true → regionFault start (length (m .region)) ≡ none → Calm (later run m .script) at
+    → Responds (turn (mount start at) (later run m) .heard))
