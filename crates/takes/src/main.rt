@@ -728,7 +728,7 @@ fn run_line(
 }
 
 // A line as it came: one that is too long is a bad one.
-fn run_read(
+fn run_kind(
     region: &mut [u8],
     script: &mut [u8],
     work: &mut [u8],
@@ -744,6 +744,36 @@ fn run_read(
         LineKind::Whole => run_line(region, script, work, out, line, console),
         _ => bad_console(out, console),
     }
+}
+
+// Writes what waits, with the lengths as they were.
+fn shown(out: &[u8], console: Console) -> Console
+    ensures { λ r. ⌜ (r .region ≡ console .region) × (r .script ≡ console .script) ⌝ }
+{
+    let mut said = console.said;
+    said.waiting = output::flush(out, said.waiting);
+    Console {
+        region: console.region,
+        script: console.script,
+        said: said,
+    }
+}
+
+// A line, and its answer written at once: whoever typed it, or sent it through a pipe, may wait for that before the next line.
+fn run_read(
+    region: &mut [u8],
+    script: &mut [u8],
+    work: &mut [u8],
+    out: &mut [u8],
+    line: &[u8],
+    kind: LineKind,
+    console: Console,
+) -> Console
+    requires { ⌜ Kept (now region) (now script) console ⌝ }
+    ensures { λ r. ⌜ Kept (now (region .entry)) (now (script .entry)) r ⌝ }
+{
+    let console = run_kind(region, script, work, out, line, kind, console);
+    shown(out, console)
 }
 
 // Before the first line: nothing is mounted, and the script is empty.
@@ -773,7 +803,7 @@ fn started() -> Console
     }
 }
 
-// All lines, and how many bytes wait at the end.
+// All lines.
 fn run_lines(
     region: &mut [u8],
     script: &mut [u8],
@@ -781,7 +811,7 @@ fn run_lines(
     input: &mut [u8],
     line: &mut [u8],
     out: &mut [u8],
-) -> usize {
+) {
     let mut console = started();
     let mut unread = Unread { from: 0, to: 0 };
     // A proved loop has to end: the lines go down from a number that no run uses up.
@@ -792,14 +822,11 @@ fn run_lines(
         let len = got.len;
         let kind = got.kind;
         if let LineKind::Over = kind {
-            let said = console.said;
-            return said.waiting;
+            return;
         }
         console = run_read(region, script, work, out, &line[..len], kind, console);
         lines -= 1;
     }
-    let said = console.said;
-    said.waiting
 }
 
 fn main() {
@@ -809,7 +836,7 @@ fn main() {
     let mut input = [0u8; IN_SIZE];
     let mut line = [0u8; LINE_SIZE];
     let mut out = [0u8; OUT_SIZE];
-    let waiting = run_lines(
+    run_lines(
         &mut region,
         &mut script,
         &mut work,
@@ -817,5 +844,4 @@ fn main() {
         &mut line,
         &mut out,
     );
-    output::flush(&out, waiting);
 }
