@@ -26,7 +26,7 @@ brief() { # FILE
 '
     held='' wrong=''
     : >"$1"
-    while IFS= read -r line; do
+    while IFS= read -r line || [ -n "$line" ]; do
         printf '%s\n' "$line" >>"$1"
         case $line in
         'rt: '*' proved ('* | 'rt: '*': refused, as it must be '* | 'rt: '*" wrote what its file 'stdout' has "* | 'rt: ok, '*)
