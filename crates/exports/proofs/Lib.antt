@@ -1,3 +1,4 @@
+pub mod CodecCrossing
 pub mod Crossing
 pub mod Determined
 pub mod HandedBack

@@ -1,1 +1,2 @@
+pub mod Codecs
 pub mod Forms

@@ -1,5 +1,7 @@
 // The calls for a host in C or Rust: one exported function a call, over structs of plain numbers by value and lent slices. Only numbers cross; the
 // conversions are proved, and each function is its call of document 01 between them.
+mod codecs;
+
 use definition::Answer;
 use definition::BatchOp;
 use definition::Fault;
