@@ -2,7 +2,7 @@
 //! pointer and its length.
 
 use crate::subject::{On, Subject};
-use outcome::{Op, Outcome, Space, State};
+use outcome::{Codec, KeyRead, Op, Outcome, Space, State};
 
 /// A function that takes region, script and state, and then some more.
 macro_rules! on_state {
@@ -28,6 +28,19 @@ on_state! {
 extern "C" {
     fn takes_mount(_: *mut u8, _: usize, _: *const u8, _: usize, start: u32, at: u64) -> Outcome;
     fn takes_space(_: State) -> Space;
+    fn takes_key_read(_: *const u8, _: usize) -> KeyRead;
+    fn takes_key_write(_: *const u8, _: usize, _: *mut u8, _: usize) -> Codec;
+    fn takes_key_len(_: *const u8, _: usize) -> Codec;
+    fn takes_key_order(_: *const u8, _: usize, _: *const u8, _: usize) -> u64;
+    fn takes_entry_write(
+        kind: u64,
+        _: *const u8,
+        _: usize,
+        _: *const u8,
+        _: usize,
+        _: *mut u8,
+        _: usize,
+    ) -> Codec;
 }
 
 /// A call with region and script, and then some more. Every pointer comes from a
@@ -93,5 +106,30 @@ impl Subject for Archive {
     fn space(&self, state: State) -> Space {
         // Numbers alone cross, by value.
         unsafe { takes_space(state) }
+    }
+
+    // Of these, too, each pointer goes with its slice's own length.
+    fn key_read(&self, buffer: &[u8]) -> KeyRead {
+        unsafe { takes_key_read(buffer.as_ptr(), buffer.len()) }
+    }
+
+    fn key_write(&self, key: &[u8], out: &mut [u8]) -> Codec {
+        unsafe { takes_key_write(key.as_ptr(), key.len(), out.as_mut_ptr(), out.len()) }
+    }
+
+    fn key_len(&self, buffer: &[u8]) -> Codec {
+        unsafe { takes_key_len(buffer.as_ptr(), buffer.len()) }
+    }
+
+    fn key_order(&self, a: &[u8], b: &[u8]) -> u64 {
+        unsafe { takes_key_order(a.as_ptr(), a.len(), b.as_ptr(), b.len()) }
+    }
+
+    fn entry_write(&self, kind: u64, key: &[u8], value: &[u8], out: &mut [u8]) -> Codec {
+        unsafe {
+            takes_entry_write(
+                kind, key.as_ptr(), key.len(), value.as_ptr(), value.len(), out.as_mut_ptr(), out.len(),
+            )
+        }
     }
 }

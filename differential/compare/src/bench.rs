@@ -20,7 +20,7 @@ pub struct Spent {
 }
 
 pub struct Bench {
-    subject: Box<dyn Subject>,
+    pub subject: Box<dyn Subject>,
     session: Session,
     region: Vec<u8>,
     script: Vec<u8>,
@@ -200,6 +200,6 @@ fn describe(call: &Call, region: &[u8], script: &[u8], state: State, wrong: &[St
     )
 }
 
-fn hex(bytes: &[u8]) -> String {
+pub fn hex(bytes: &[u8]) -> String {
     bytes.iter().map(|byte| format!("{byte:02x}")).collect()
 }

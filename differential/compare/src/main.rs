@@ -8,6 +8,8 @@ mod call;
 mod clock;
 mod draw;
 mod edges;
+mod findings;
+mod keys;
 mod large;
 mod loose;
 mod material;
@@ -46,10 +48,12 @@ fn subject(name: &str) -> Option<Box<dyn Subject>> {
     }
 }
 
-/// The edges first, always whole; short leaves out what takes long. Then random
-/// calls until there are `calls`.
+/// The key codec, the findings and the edges first, always whole; short leaves
+/// out what takes long. Then random calls until there are `calls`.
 fn compare(subject: Box<dyn Subject>, calls: u64, seed: u64, short: bool) -> ExitCode {
     let mut bench = Bench::new(subject);
+    keys::all(bench.subject.as_ref(), &mut bench.tally);
+    findings::all(&mut bench);
     edges::all(&mut bench);
     untrue::all(&mut bench);
     if !short {

@@ -1,7 +1,7 @@
 //! What is compared with the Rust original: functions of region, script and
 //! state. The mirror is the plain model.
 
-use outcome::{Op, Outcome, Space, State};
+use outcome::{Codec, KeyRead, Op, Outcome, Space, State};
 
 pub trait Subject {
     fn mount(&self, region: &mut [u8], script: &[u8], start: u32, at: u64) -> Outcome;
@@ -14,6 +14,12 @@ pub trait Subject {
     fn scan(&self, on: On, prefix: &[u8], most: u64, out: &mut [u8]) -> Outcome;
     /// The question for the room, which sees the state and no region.
     fn space(&self, state: State) -> Space;
+    fn key_read(&self, buffer: &[u8]) -> KeyRead;
+    fn key_write(&self, key: &[u8], out: &mut [u8]) -> Codec;
+    fn key_len(&self, buffer: &[u8]) -> Codec;
+    fn key_order(&self, a: &[u8], b: &[u8]) -> u64;
+    /// Kind 1 puts, 2 deletes.
+    fn entry_write(&self, kind: u64, key: &[u8], value: &[u8], out: &mut [u8]) -> Codec;
 }
 
 /// What every call but mount is given.
@@ -60,5 +66,25 @@ impl Subject for Mirror {
 
     fn space(&self, state: State) -> Space {
         model::space(state)
+    }
+
+    fn key_read(&self, buffer: &[u8]) -> KeyRead {
+        model::key_read(buffer)
+    }
+
+    fn key_write(&self, key: &[u8], out: &mut [u8]) -> Codec {
+        model::key_write(key, out)
+    }
+
+    fn key_len(&self, buffer: &[u8]) -> Codec {
+        model::key_len(buffer)
+    }
+
+    fn key_order(&self, a: &[u8], b: &[u8]) -> u64 {
+        model::key_order(a, b)
+    }
+
+    fn entry_write(&self, kind: u64, key: &[u8], value: &[u8], out: &mut [u8]) -> Codec {
+        model::entry_write(kind, key, value, out)
     }
 }

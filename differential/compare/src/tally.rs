@@ -8,6 +8,15 @@ use outcome::{Outcome, CLEAN};
 const PRINTED: u64 = 5;
 const NUMBERS: usize = 19;
 
+/// Calls of the key codec.
+#[derive(Debug, Default)]
+pub struct KeyCalls {
+    pub reads: u64,
+    pub lengths: u64,
+    pub writes: u64,
+    pub orders: u64,
+}
+
 #[derive(Default)]
 pub struct Tally {
     /// Per kind of call, answers 0 to 3.
@@ -21,6 +30,9 @@ pub struct Tally {
     never: u64,
     /// Calls from untrue numbers, which are not among the others.
     pub untrue: u64,
+    pub keys: KeyCalls,
+    pub findings: u64,
+    pub finding_calls: u64,
     differences: u64,
 }
 
@@ -75,6 +87,9 @@ impl Tally {
         }
         println!("answers that should never come {}", self.never);
         println!("calls from untrue numbers {}", self.untrue);
+        println!("findings {}, calls in them {}", self.findings, self.finding_calls);
+        let KeyCalls { reads, lengths, writes, orders } = self.keys;
+        println!("key codec: reads {reads}, length questions {lengths}, writes {writes}, orders {orders}");
         println!("differences {}", self.differences);
     }
 }

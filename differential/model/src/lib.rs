@@ -5,12 +5,14 @@ mod batch;
 mod calls;
 mod codec;
 mod items;
+mod keys;
 mod recovery;
 mod scan;
 mod world;
 
 pub use batch::{batch, ops};
 pub use calls::{contains, delete, get, mount, put, space};
+pub use keys::{entry_write, key_len, key_order, key_read, key_write};
 pub use scan::scan;
 
 /// A refusal: document 01's number and its values.

@@ -2,6 +2,7 @@
 //! adds to the original stands here; all else is the original's own doing.
 
 mod calls;
+mod keys;
 mod list;
 mod number;
 mod said;
@@ -9,6 +10,7 @@ mod scan;
 mod session;
 mod space;
 
+pub use keys::{key_len, key_order, key_read, key_write};
 pub use outcome::{Outcome, Space, CLEAN, DEBRIS, PENDING};
 pub use sequential_storage::flash::ScriptedFlash;
 pub use sequential_storage::image;

@@ -69,7 +69,7 @@ fn driver(kind: DriverFaultKind) -> u64 {
     }
 }
 
-fn serialization(kind: SerializationFaultKind) -> [u64; 3] {
+pub fn serialization(kind: SerializationFaultKind) -> [u64; 3] {
     match kind {
         SerializationFaultKind::BufferTooSmall => [0, 0, 0],
         SerializationFaultKind::InvalidData => [1, 0, 0],

@@ -57,3 +57,47 @@ pub struct Op {
     pub value_at: usize,
     pub value_len: usize,
 }
+
+/// What a key's codec says: 1 with the bytes that it took, wrote or asks for, or
+/// 0 with document 01's number and its values.
+#[repr(C)]
+#[derive(Clone, Copy, Debug, Default, PartialEq, Eq)]
+pub struct Codec {
+    pub answer: u64,
+    pub number: u64,
+    pub v: [u64; 3],
+    pub length: u64,
+}
+
+impl Codec {
+    pub fn done(length: usize) -> Self {
+        Codec { answer: 1, length: length as u64, ..Codec::default() }
+    }
+
+    pub fn refused(number: u64, v: [u64; 3]) -> Self {
+        Codec { number, v, ..Codec::default() }
+    }
+}
+
+/// A key that was read: its bytes, then zeros; none where reading is refused.
+#[repr(C)]
+#[derive(Clone, Copy, Debug, PartialEq, Eq)]
+pub struct KeyRead {
+    pub said: Codec,
+    pub bytes: [u8; 96],
+    pub len: u64,
+}
+
+impl KeyRead {
+    /// `key` is at most 96 bytes long.
+    pub fn new(said: Codec, key: &[u8]) -> Self {
+        let mut bytes = [0; 96];
+        bytes[..key.len()].copy_from_slice(key);
+        KeyRead { said, bytes, len: key.len() as u64 }
+    }
+}
+
+/// Which of two keys comes first.
+pub const LESS: u64 = 0;
+pub const EQUAL: u64 = 1;
+pub const GREATER: u64 = 2;
