@@ -106,6 +106,7 @@ fn missed(verdict: Verdict, next: Step) -> FetchAnswer
 
 // Where the value under a key stands.
 pub fn fetch(region: &[u8], script: &[u8], key: &[u8], step: Step) -> FetchAnswer
+    requires { ⌜ good (now region) ≡ true ⌝ }
     ensures { λ r. ⌜ Fetches (now (key .entry)) (now (region .entry)) (now (script .entry)) step r ⌝ }
 {
     let next = script::stepped(script, step);

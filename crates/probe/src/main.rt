@@ -418,7 +418,9 @@ fn put_found(region: &[u8], out: &mut [u8], waiting: usize, spot: Spot) -> usize
     put_bytes(out, waiting, slices::part(region, at, len))
 }
 
-fn put_fetched(region: &[u8], script: &[u8], out: &mut [u8], key: &[u8], run: Run) -> Run {
+fn put_fetched(region: &[u8], script: &[u8], out: &mut [u8], key: &[u8], run: Run) -> Run
+    requires { ⌜ good (now region) ≡ true ⌝ }
+{
     let place = run.place;
     let waiting = output::put(out, run.waiting, b"fetch ");
     match items::fetch(region, script, key, run.step) {
@@ -435,7 +437,9 @@ fn put_fetched(region: &[u8], script: &[u8], out: &mut [u8], key: &[u8], run: Ru
     }
 }
 
-fn fetch_line(region: &[u8], script: &[u8], out: &mut [u8], key: &[u8], run: Run) -> Run {
+fn fetch_line(region: &[u8], script: &[u8], out: &mut [u8], key: &[u8], run: Run) -> Run
+    requires { ⌜ good (now region) ≡ true ⌝ }
+{
     let mut key_bytes = [0u8; 96];
     let Filled::To(key_len) = unhex(key, &mut key_bytes) else {
         return bad_line(out, run);

@@ -6,3 +6,6 @@ pub mod Finding
 pub mod Holding
 pub mod Journals
 pub mod Changing
+pub mod Trusting
+pub mod Backwards
+pub mod Classes

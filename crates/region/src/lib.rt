@@ -2,6 +2,7 @@
 // region and its items"; the contracts say that each function is that definition. Nothing above this crate knows a byte of a record, but
 // for the lengths and heads that it passes on from `records`.
 use definition::Space;
+use prints::TABLE;
 use records::HEAD_SIZE;
 use records::ITEM_KIND;
 pub use records::agrees;
@@ -20,7 +21,12 @@ ghost use Rattle.definition.specs.Region.{item, distinct, allowed, items, whole
 ghost use Rattle.definition.specs.Space.{spaceOf};
 ghost use Rattle.definition.specs.Recovery.{isJournal};
 ghost use Rattle.region.specs.Places.{Visit, placeOf, Short, spanFound, keyAt, valueAt, Fetched, FirstJournal};
-ghost use Rattle.region.specs.Changes.{Removes, Stores};
+ghost use Rattle.prints.specs.Prints.{mostClasses, tableSize};
+ghost use Rattle.region.specs.Classes.{isSwept, Tried, DistinctIn};
+ghost use Rattle.region.specs.Changes.{Counted, Surveyed, Removes, Stores};
+
+// What stands where a key's length would, behind the records.
+const ERASED: usize = 255;
 
 // What a walk meets at a place: a record's key length, value length and the next place; or the walk is over.
 pub enum Next {
@@ -32,6 +38,18 @@ pub enum Next {
 pub enum Found {
     At(usize, usize, usize),
     Nothing,
+}
+
+// What stands behind the records of a region: only 0xFF, and then how many records there are; or something else.
+pub enum Swept {
+    Whole(usize),
+    Broken,
+}
+
+// What one walk has seen: what the region holds, and where the record with a key stands.
+pub struct Seen {
+    pub space: Space,
+    pub found: Found,
 }
 
 // Where bytes stand, and how many.
@@ -84,6 +102,26 @@ pub fn next_item(region: &[u8], at: usize) -> Next
     Next::Item(klen, vlen, next)
 }
 
+// The same where the region is known to be whole from there on: no record is compared with itself again. 0xFF is no key's length, so that one byte
+// tells a record from the tail.
+fn next_whole(region: &[u8], at: usize) -> Next
+    requires { ⌜ whole (drop at (now region)) ≡ true ⌝ }
+    ensures { λ r. ⌜ Visit (now (region .entry)) at r ⌝ }
+{
+    let left = left_from(region, at);
+    if left < HEAD_SIZE {
+        return Next::Nothing;
+    }
+    let klen = slices::wide(region[at + 8]);
+    if klen == ERASED {
+        return Next::Nothing;
+    }
+    let vlen = slices::le16_at(region, at + 6);
+    let taken = span(klen, vlen);
+    let next = at + taken;
+    Next::Item(klen, vlen, next)
+}
+
 // The key of the record at a place.
 pub fn key_at(region: &[u8], at: usize, klen: usize) -> &[u8]
     requires { ⌜ at + Region.headSize + klen ≤ length (now region) ⌝ }
@@ -102,13 +140,14 @@ pub fn value_at(region: &[u8], at: usize, klen: usize, vlen: usize) -> &[u8]
 
 // ---- the item with a key
 
-// Where the record with a key stands, among those from a place on.
-fn find_from(region: &[u8], from: usize, key: &[u8]) -> Found
-    ensures { λ r. ⌜ r ≡ placeOf from (now (key .entry)) (items (drop from (now (region .entry)))) ⌝ }
+// Where the record with a key stands.
+pub fn find(region: &[u8], key: &[u8]) -> Found
+    requires { ⌜ whole (now region) ≡ true ⌝ }
+    ensures { λ r. ⌜ r ≡ placeOf 0 (now (key .entry)) (items (now (region .entry))) ⌝ }
 {
-    let mut at = from;
+    let mut at: usize = 0;
     loop {
-        let Next::Item(klen, vlen, next) = next_item(region, at) else {
+        let Next::Item(klen, vlen, next) = next_whole(region, at) else {
             return Found::Nothing;
         };
         if slices::same(key_at(region, at, klen), key) {
@@ -118,15 +157,9 @@ fn find_from(region: &[u8], from: usize, key: &[u8]) -> Found
     }
 }
 
-// Where the record with a key stands.
-pub fn find(region: &[u8], key: &[u8]) -> Found
-    ensures { λ r. ⌜ r ≡ placeOf 0 (now (key .entry)) (items (now (region .entry))) ⌝ }
-{
-    find_from(region, 0, key)
-}
-
 // Where the value under a key stands.
 pub fn fetch(region: &[u8], key: &[u8]) -> Spot
+    requires { ⌜ good (now region) ≡ true ⌝ }
     ensures { λ r. ⌜ Fetched (now (region .entry)) (now (key .entry)) r ⌝ }
 {
     let Found::At(at, klen, vlen) = find(region, key) else {
@@ -136,46 +169,94 @@ pub fn fetch(region: &[u8], key: &[u8]) -> Spot
     Spot::At(from, vlen)
 }
 
-// ---- the image test
+// ---- the image test: `good` is its definition, and is_good is proved equal to it. Each key is asked for in a table of prints, and only one that the
+// table may have met before is looked for among the records before it.
 
-// Whether only 0xFF follows the records.
-fn is_whole(region: &[u8]) -> bool
-    ensures { λ r. ⌜ r ≡ whole (now (region .entry)) ⌝ }
+// Whether only 0xFF follows the records. How many they are is a hint for what follows, and no contract says it.
+fn sweep(region: &[u8]) -> Swept
+    ensures { λ r. ⌜ isSwept r ≡ whole (now (region .entry)) ⌝ }
 {
     let mut at: usize = 0;
+    let mut n: usize = 0;
     loop {
         let Next::Item(_, _, next) = next_item(region, at) else {
-            return records::is_blank_from(region, at);
+            if records::is_blank_from(region, at) {
+                return Swept::Whole(n);
+            }
+            return Swept::Broken;
         };
+        at = next;
+        n += 1;
+    }
+}
+
+// Whether a key is none of those before it, if it is of this class.
+fn is_new(before: &[u8], key: &[u8], table: &mut [u8; TABLE], class: usize, classes: usize) -> bool
+    requires { ⌜ whole (now before) ≡ true ⌝ }
+    requires { ⌜ (length (now table) ≡ tableSize) × (classes ≤ mostClasses) ⌝ }
+    ensures { λ r. ⌜ Tried (now (before .entry)) (now (key .entry)) (now (table .entry)) class classes (now (table .exit)) r ⌝ }
+{
+    let h = prints::hash(key);
+    if prints::class_of(h, classes) != class {
+        return true;
+    }
+    if !prints::note(table, h) {
+        return true;
+    }
+    let Found::Nothing = find(before, key) else {
+        return false;
+    };
+    true
+}
+
+// Whether no key of a class occurs twice.
+fn is_distinct_in(region: &[u8], class: usize, classes: usize) -> bool
+    requires { ⌜ (whole (now region) ≡ true) × (classes ≤ mostClasses) ⌝ }
+    ensures { λ r. ⌜ DistinctIn (now (region .entry)) class classes r ⌝ }
+{
+    let mut table: [u8; TABLE] = [0; TABLE];
+    let mut at: usize = 0;
+    loop {
+        let Next::Item(klen, _, next) = next_whole(region, at) else {
+            return true;
+        };
+        if !is_new(
+            slices::part(region, 0, at),
+            key_at(region, at, klen),
+            &mut table,
+            class,
+            classes,
+        ) {
+            return false;
+        }
         at = next;
     }
 }
 
-// Whether no key occurs twice.
-fn is_distinct(region: &[u8]) -> bool
+// Whether no key occurs twice, of about so many: a walk for each class, of which there are so many that a table has room for the keys of one.
+fn is_distinct(region: &[u8], keys: usize) -> bool
+    requires { ⌜ whole (now region) ≡ true ⌝ }
     ensures { λ r. ⌜ r ≡ distinct (items (now (region .entry))) ⌝ }
 {
-    let mut at: usize = 0;
-    loop {
-        let Next::Item(klen, _, next) = next_item(region, at) else {
-            return true;
-        };
-        let Found::Nothing = find_from(region, next, key_at(region, at, klen)) else {
+    let classes = prints::classes(keys);
+    let mut class: usize = 0;
+    while class < classes {
+        if !is_distinct_in(region, class, classes) {
             return false;
-        };
-        at = next;
+        }
+        class += 1;
     }
+    true
 }
 
 // Whether the image is good.
 pub fn is_good(region: &[u8]) -> bool
     ensures { λ r. ⌜ r ≡ good (now (region .entry)) ⌝ }
 {
-    if is_whole(region) {
-        is_distinct(region)
-    } else {
-        false
-    }
+    let Swept::Whole(keys) = sweep(region) else {
+        return false;
+    };
+    is_distinct(region, keys)
 }
 
 // ---- counting
@@ -227,6 +308,53 @@ pub fn space(region: &[u8]) -> Space
     }
 }
 
+// The same, where a walk over a whole region has come to a place and has counted so many user records.
+fn space_from(region: &[u8], from: usize, counted: usize) -> Space
+    requires { ⌜ Counted (now region) from counted ⌝ }
+    ensures { λ r. ⌜ r ≡ spaceOf (now (region .entry)) ⌝ }
+{
+    let mut at = from;
+    let mut takes = counted;
+    loop {
+        let Next::Item(klen, _, next) = next_whole(region, at) else {
+            return Space {
+                used: at,
+                free: region.len() - at,
+                takes: takes,
+            };
+        };
+        takes += marks::user_count(key_at(region, at, klen));
+        at = next;
+    }
+}
+
+// What the region holds, and where the record with a key stands: one walk for both.
+fn survey(region: &[u8], key: &[u8]) -> Seen
+    requires { ⌜ whole (now region) ≡ true ⌝ }
+    ensures { λ r. ⌜ Surveyed (now (region .entry)) (now (key .entry)) r ⌝ }
+{
+    let mut at: usize = 0;
+    let mut takes: usize = 0;
+    loop {
+        let Next::Item(klen, vlen, next) = next_whole(region, at) else {
+            let space = space_from(region, at, takes);
+            return Seen {
+                space: space,
+                found: Found::Nothing,
+            };
+        };
+        takes += marks::user_count(key_at(region, at, klen));
+        if slices::same(key_at(region, at, klen), key) {
+            let space = space_from(region, next, takes);
+            return Seen {
+                space: space,
+                found: Found::At(at, klen, vlen),
+            };
+        }
+        at = next;
+    }
+}
+
 // ---- the journal's keys
 
 // Whether a key is a journal key.
@@ -244,11 +372,12 @@ pub fn is_journal(key: &[u8]) -> bool
 
 // Where the first journal key stands.
 pub fn first_journal(region: &[u8]) -> Spot
+    requires { ⌜ good (now region) ≡ true ⌝ }
     ensures { λ r. ⌜ FirstJournal (now (region .entry)) r ⌝ }
 {
     let mut at: usize = 0;
     loop {
-        let Next::Item(klen, _, next) = next_item(region, at) else {
+        let Next::Item(klen, _, next) = next_whole(region, at) else {
             return Spot::Nothing;
         };
         if is_journal(key_at(region, at, klen)) {
@@ -293,8 +422,9 @@ fn drop_found(region: &mut [u8], key: &[u8], before: Space, found: Found) -> Spa
         return before;
     };
     let old = span(klen, vlen);
-    records::cut(region, at, old);
-    let end = before.used - old;
+    let used = before.used;
+    records::cut(region, at, old, used);
+    let end = used - old;
     Space {
         used: end,
         free: region.len() - end,
@@ -307,8 +437,9 @@ pub fn remove(region: &mut [u8], key: &[u8]) -> Space
     requires { ⌜ good (now region) ≡ true ⌝ }
     ensures { λ r. ⌜ Removes (now (key .entry)) (now (region .entry)) (now (region .exit)) r ⌝ }
 {
-    let before = space(region);
-    let found = find(region, key);
+    let seen = survey(region, key);
+    let before = seen.space;
+    let found = seen.found;
     drop_found(region, key, before, found)
 }
 
@@ -318,8 +449,9 @@ pub fn store(region: &mut [u8], key: &[u8], value: &[u8]) -> Stored
     requires { ⌜ allowed (length (now key)) (length (now value)) ≡ true ⌝ }
     ensures { λ r. ⌜ Stores (item (now (key .entry)) (now (value .entry))) (now (region .entry)) (now (region .exit)) r ⌝ }
 {
-    let before = space(region);
-    let found = find(region, key);
+    let seen = survey(region, key);
+    let before = seen.space;
+    let found = seen.found;
     let old = old_span(found);
     let new = span(key.len(), value.len());
     if !has_room(before.used, old, new, region.len()) {

@@ -1,69 +1,50 @@
 use borrow.Author.Needs.{needs}
-use mathlib.Core.Path.{_≡_, refl, sym, _∙_}
-use Prim.Native.Nat.{_-_}
-use lib.ListN.{length, drop}
-use Rattle.definition.specs.Region.{distinct, items}
-use Rattle.region.specs.Places.{Met}
-use Rattle.region.proofs.Answers.{met-item, met-nothing}
-use Rattle.region.proofs.Finding.{distinct-miss, distinct-hit, distinct-stop}
+use mathlib.Core.Path.{_≡_, sym}
+use Prim.Native.Nat.{ℕ, _-_, _≤_, _<_}
+use native.Mathlib.Omega.{arith}
+use borrow.Author.Count.{below-none, below-more}
+use borrow.Author.Tests.{not-true, not-false}
+use Rattle.definition.specs.Region.{items}
+use Rattle.region.specs.Classes.{NewIn, back}
+use Rattle.region.proofs.Classes.{every-class}
 use Rattle.region.proofs.is_distinct.Statement.{statement}
 use Rattle.region.proofs.is_distinct.Tie as tie
 
 abbrev Inv-loop : tie.InvT-loop
-Inv-loop region at₀ at = distinct (items region) ≡ distinct (items (drop at region))
+Inv-loop region keys classes class₀ class = (class ≤ classes) × ((k : ℕ) → k < class → NewIn k classes (back (items region)))
 
 abbrev μ-loop : tie.MeasureT-loop
-μ-loop region at₀ at = length region - at
+μ-loop region keys classes class₀ class = classes - class
 
--- the record that was met
-abbrev at : tie.After-known-told Inv-loop μ-loop → tie.At-loop Inv-loop μ-loop
-at c = c .before .before .before .before
-
-found : (c : tie.After-known-told Inv-loop μ-loop)
-    → Met (at c .before .before .args .region .now) (at c .loop .at) (c .before .klen .given .0 .0) (c .before .klen .given .0 .1 .0) (c .before .klen .given .0 .1 .1 .0)
-found c = met-item (c .before .before .before .next-item .ensures) (c .before .klen .given .1)
+classes-requires : tie.Need-classes-requires Inv-loop μ-loop
+classes-requires c κs = search needs
 
 loop-holds : tie.Need-loop-holds Inv-loop μ-loop
-loop-holds c = refl
+loop-holds c = (search needs, below-none _)
 
-next-item-requires : tie.Need-next-item-requires Inv-loop μ-loop
-next-item-requires c κs = search needs
-
-enum-known-klen : tie.Need-enum-known-klen Inv-loop μ-loop
-enum-known-klen c = search needs
-
-enum-told : tie.Need-enum-told Inv-loop μ-loop
-enum-told c = search needs
+is-distinct-in-requires : tie.Need-is-distinct-in-requires Inv-loop μ-loop
+is-distinct-in-requires c κs = search needs
 
 returns : tie.Need-returns Inv-loop μ-loop
-returns c = let k = c .before .before in sym (k .before .loop .inv ∙ distinct-stop _ (met-nothing (k .next-item .ensures) (c .enum-told .given .1)))
+returns c = sym (c .before .is-distinct-in .ensures .old (not-true _ (c .if1 .taken)))
 
-key-at-requires : tie.Need-key-at-requires Inv-loop μ-loop
-key-at-requires c κs = let m = found c in search needs
-
-find-from-requires : tie.Need-find-from-requires Inv-loop μ-loop
-find-from-requires c κs = search needs
-
-enum-told-2 : tie.Need-enum-told-2 Inv-loop μ-loop
-enum-told-2 c = search needs
-
-enum-told-3 : tie.Need-enum-told-3 Inv-loop μ-loop
-enum-told-3 c = search needs
-
-returns-2 : tie.Need-returns-2 Inv-loop μ-loop
-returns-2 c =
-    let f = c .before .before in
-    let p = f .before in
-    sym (at (p .before) .loop .inv ∙ distinct-hit (found (p .before)) (p .key-at .ensures) _ _ _ (sym (f .find-from .ensures) ∙ c .enum-told3 .given .1))
+add-class : tie.Need-add-class Inv-loop μ-loop
+add-class c = search needs
 
 loop-less : tie.Need-loop-less Inv-loop μ-loop
-loop-less c = let m = found (c .before .before .before .before) in search needs
+loop-less c = search needs
 
 loop-again : tie.Need-loop-again Inv-loop μ-loop
 loop-again c =
-    let f = c .before .before in
-    let p = f .before in
-    at (p .before) .loop .inv ∙ distinct-miss (found (p .before)) (p .key-at .ensures) (sym (f .find-from .ensures) ∙ c .enum-told2 .given .1)
+    let l = c .before .before .before .loop in
+    (search needs, below-more _ (l .class) (l .inv .1) (c .before .is-distinct-in .ensures .new (not-false _ (c .if1 .left))))
+
+returns-2 : tie.Need-returns-2 Inv-loop μ-loop
+returns-2 c =
+    let l = c .before .loop in
+    let n = c .before .before .classes in
+    let e : l .class ≡ n .result = search needs in
+    sym (every-class (n .result) (n .ensures .0) _ (λ k q. l .inv .1 k (omega arith)))
 
 pub is-distinct-spec : {M : Type 1} → statement M
 is-distinct-spec =
@@ -71,15 +52,11 @@ is-distinct-spec =
     (tie.spec
     Inv-loop
     μ-loop
+    classes-requires
     loop-holds
-    next-item-requires
-    enum-known-klen
-    enum-told
+    is-distinct-in-requires
     returns
-    key-at-requires
-    find-from-requires
-    enum-told-2
-    enum-told-3
-    returns-2
+    add-class
     loop-less
-    loop-again)
+    loop-again
+    returns-2)

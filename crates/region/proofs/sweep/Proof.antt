@@ -1,19 +1,20 @@
 use borrow.Author.Needs.{needs}
 use mathlib.Core.Path.{_≡_, refl, sym, _∙_}
-use Prim.Native.Nat.{_-_}
+use Prim.Native.Nat.{_-_, _≤_}
 use lib.ListN.{length, drop}
 use Rattle.definition.specs.Region.{whole}
 use Rattle.region.specs.Places.{Met}
+use Rattle.region.specs.Classes.{isSwept}
 use Rattle.region.proofs.Answers.{met-item, met-nothing}
 use Rattle.region.proofs.Walks.{met-whole, whole-stop}
-use Rattle.region.proofs.is_whole.Statement.{statement}
-use Rattle.region.proofs.is_whole.Tie as tie
+use Rattle.region.proofs.sweep.Statement.{statement}
+use Rattle.region.proofs.sweep.Tie as tie
 
 abbrev Inv-loop : tie.InvT-loop
-Inv-loop region at₀ at = whole region ≡ whole (drop at region)
+Inv-loop region at₀ n₀ at n = (n ≤ at) × (at ≤ length region) × (whole region ≡ whole (drop at region))
 
 abbrev μ-loop : tie.MeasureT-loop
-μ-loop region at₀ at = length region - at
+μ-loop region at₀ n₀ at n = length region - at
 
 -- the record that was met
 abbrev at : tie.After-known-told Inv-loop μ-loop → tie.At-loop Inv-loop μ-loop
@@ -24,7 +25,7 @@ found : (c : tie.After-known-told Inv-loop μ-loop)
 found c = met-item (c .before .before .before .next-item .ensures) (c .before .next .given .1)
 
 loop-holds : tie.Need-loop-holds Inv-loop μ-loop
-loop-holds c = refl
+loop-holds c = (search needs, search needs, refl)
 
 next-item-requires : tie.Need-next-item-requires Inv-loop μ-loop
 next-item-requires c κs = search needs
@@ -39,19 +40,30 @@ is-blank-from-requires : tie.Need-is-blank-from-requires Inv-loop μ-loop
 is-blank-from-requires c κs = search needs
 
 returns : tie.Need-returns Inv-loop μ-loop
+unfolding isSwept
 returns c =
-    let t = c .before in
+    let t = c .before .before in
     let k = t .before .before in
-    c .is-blank-from .ensures ∙ sym (k .before .loop .inv ∙ whole-stop _ (met-nothing (k .next-item .ensures) (t .enum-told .given .1)))
+    sym (k .before .loop .inv .2 ∙ whole-stop _ (met-nothing (k .next-item .ensures) (t .enum-told .given .1)) ∙ sym (c .before .is-blank-from .ensures) ∙ c .if1 .taken)
+
+returns-2 : tie.Need-returns-2 Inv-loop μ-loop
+unfolding isSwept
+returns-2 c =
+    let t = c .before .before in
+    let k = t .before .before in
+    sym (k .before .loop .inv .2 ∙ whole-stop _ (met-nothing (k .next-item .ensures) (t .enum-told .given .1)) ∙ sym (c .before .is-blank-from .ensures) ∙ c .if1 .left)
+
+add-n : tie.Need-add-n Inv-loop μ-loop
+add-n c = let m = found c in search needs
 
 loop-less : tie.Need-loop-less Inv-loop μ-loop
 loop-less c = let m = found c in search needs
 
 loop-again : tie.Need-loop-again Inv-loop μ-loop
-loop-again c = at c .loop .inv ∙ met-whole (found c)
+loop-again c = let m = found c in let l = at c .loop .inv in (search needs, search needs, l .2 ∙ met-whole m)
 
-pub is-whole-spec : {M : Type 1} → statement M
-is-whole-spec =
+pub sweep-spec : {M : Type 1} → statement M
+sweep-spec =
     tie.close
     (tie.spec
     Inv-loop
@@ -62,5 +74,7 @@ is-whole-spec =
     enum-told
     is-blank-from-requires
     returns
+    returns-2
+    add-n
     loop-less
     loop-again)
