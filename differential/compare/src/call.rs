@@ -43,6 +43,14 @@ impl Call {
         }
     }
 
+    /// The operation list of a batch.
+    pub fn list(&self) -> Option<&[u8]> {
+        match self {
+            Call::Batch { list } => Some(list),
+            _ => None,
+        }
+    }
+
     pub fn on_original(&self, session: &mut Session, out: &mut [u8]) -> Outcome {
         match self {
             Call::Mount { start, at } => session.mount(*start, *at),

@@ -1,5 +1,5 @@
 //! Runs the same calls on the Rust original and on a subject, and says where
-//! they differ: `compare mirror|rattle CALLS SEED [short]`.
+//! they differ; or measures what the calls cost on either side.
 
 #[cfg(feature = "rattle")]
 mod archive;
@@ -14,29 +14,73 @@ mod large;
 mod loose;
 mod material;
 mod runs;
+mod speed;
 mod subject;
 mod sweeps;
 mod tally;
 mod untrue;
 
 use bench::Bench;
+use std::path::Path;
 use std::process::ExitCode;
 use subject::{Mirror, Subject};
 
+const USAGE: &str = "compare mirror|rattle CALLS SEED [short]
+compare speed mirror|rattle OUT.csv [quick]
+compare table BEFORE.csv [AFTER.csv]
+compare plot OUT.svg BEFORE.csv [AFTER.csv]";
+
 fn main() -> ExitCode {
     let args: Vec<String> = std::env::args().skip(1).collect();
-    let numbers = args.get(1).zip(args.get(2));
-    let numbers = numbers.and_then(|(calls, seed)| Some((calls.parse().ok()?, seed.parse().ok()?)));
-    let (Some(name), Some((calls, seed))) = (args.first(), numbers) else {
-        eprintln!("compare mirror|rattle CALLS SEED [short]");
-        return ExitCode::from(2);
-    };
-    let Some(subject) = subject(name) else {
-        eprintln!("no subject {name}: it is mirror, or rattle in a build with that feature");
-        return ExitCode::from(2);
-    };
-    let short = args.get(3).is_some_and(|word| word == "short");
-    compare(subject, calls, seed, short)
+    let args: Vec<&str> = args.iter().map(String::as_str).collect();
+    match args[..] {
+        ["speed", name, out, ref more @ ..] => with(name, |subject| {
+            told(speed::all(subject.as_ref(), out.as_ref(), more.contains(&"quick")))
+        }),
+        ["table", before, ref more @ ..] => told(speed::summary(before.as_ref(), first(more))),
+        ["plot", out, before, ref more @ ..] => {
+            let drawn = speed::plot(out.as_ref(), before.as_ref(), first(more));
+            told(drawn.map(|()| String::new()))
+        }
+        [name, calls, seed, ref more @ ..] => {
+            let (Ok(calls), Ok(seed)) = (calls.parse(), seed.parse()) else {
+                return wrong(USAGE);
+            };
+            with(name, |subject| compare(subject, calls, seed, more.contains(&"short")))
+        }
+        _ => wrong(USAGE),
+    }
+}
+
+fn first<'a>(more: &[&'a str]) -> Option<&'a Path> {
+    more.first().map(|word| Path::new(*word))
+}
+
+fn told(result: Result<String, String>) -> ExitCode {
+    match result {
+        Ok(text) => {
+            print!("{text}");
+            ExitCode::SUCCESS
+        }
+        Err(text) => {
+            eprintln!("{text}");
+            ExitCode::FAILURE
+        }
+    }
+}
+
+fn wrong(text: &str) -> ExitCode {
+    eprintln!("{text}");
+    ExitCode::from(2)
+}
+
+fn with(name: &str, run: impl FnOnce(Box<dyn Subject>) -> ExitCode) -> ExitCode {
+    match subject(name) {
+        Some(subject) => run(subject),
+        None => wrong(&format!(
+            "no subject {name}: it is mirror, or rattle in a build with that feature"
+        )),
+    }
 }
 
 fn subject(name: &str) -> Option<Box<dyn Subject>> {

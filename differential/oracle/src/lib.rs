@@ -11,6 +11,7 @@ mod session;
 mod space;
 
 pub use keys::{key_len, key_order, key_read, key_write};
+pub use list::operations;
 pub use outcome::{Outcome, Space, CLEAN, DEBRIS, PENDING};
 pub use sequential_storage::flash::ScriptedFlash;
 pub use sequential_storage::image;
