@@ -2,6 +2,7 @@
 // functions are split where the definition's programs are; each walks the list by place.
 use codec::Checked;
 use definition::Answer;
+use definition::BATCH_MAX;
 use definition::CapacityKind;
 use definition::Fault;
 use definition::Health;
@@ -27,9 +28,6 @@ ghost use Rattle.items.specs.Forms.{Ran};
 ghost use Rattle.gate.specs.Forms.{Says};
 ghost use Rattle.oplist.specs.Places.{Walk, opsIn};
 ghost use Rattle.batch.specs.Forms.{Tested};
-
-// The most operations: an index has two bytes, and 65535 is the erased pattern.
-const BATCH_LIMIT: usize = 65534;
 
 // ---- the tests
 
@@ -60,11 +58,11 @@ fn check_batch(list: &[u8], count: usize) -> Checked
     requires { ⌜ count ≡ length (opsIn (now list)) ⌝ }
     ensures { λ r. ⌜ r ≡ checkedOf (batchFault (opsIn (now (list .entry)))) ⌝ }
 {
-    if BATCH_LIMIT < count {
+    if BATCH_MAX < count {
         return Checked::Refused(Fault::CapacityExceeded(
             CapacityKind::BatchOperations,
             count,
-            BATCH_LIMIT,
+            BATCH_MAX,
         ));
     }
     check_all(list)

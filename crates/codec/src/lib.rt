@@ -2,7 +2,12 @@
 // from below. Every function takes any input and equals its definition in `definition/specs/Codec`.
 use definition::CapacityKind;
 use definition::CodecAnswer;
+use definition::ENTRY_HEAD;
 use definition::Fault;
+use definition::MAX_KEY_LEN;
+use definition::MAX_VALUE_LEN;
+use definition::OP_DELETE;
+use definition::OP_PUT;
 use definition::Order;
 use definition::SerializationKind;
 pub use entries::decode_entry;
@@ -34,7 +39,7 @@ pub enum Checked {
 
 // A key by value: its bytes, then zeros.
 pub struct Key {
-    pub bytes: [u8; 96],
+    pub bytes: [u8; MAX_KEY_LEN],
     pub len: usize,
 }
 
@@ -45,17 +50,17 @@ pub struct KeyRead {
 }
 
 // A key's bytes, filled up with zeros.
-fn pad(key: &[u8]) -> [u8; 96]
+fn pad(key: &[u8]) -> [u8; MAX_KEY_LEN]
     requires { ⌜ length (now key) ≤ 96 ⌝ }
     ensures { λ r. ⌜ r ≡ padded (now (key .entry)) ⌝ }
 {
-    let mut bytes = [0u8; 96];
+    let mut bytes = [0u8; MAX_KEY_LEN];
     slices::copy_in(&mut bytes, 0, key);
     bytes
 }
 
 impl Key {
-    pub const MAX_LEN: usize = 96;
+    pub const MAX_LEN: usize = MAX_KEY_LEN;
 
     // How many bytes the key at the front of a buffer takes, or why there is none.
     fn read_len(buffer: &[u8]) -> CodecAnswer
@@ -83,7 +88,7 @@ impl Key {
             return KeyRead {
                 answer: answer,
                 key: Key {
-                    bytes: [0u8; 96],
+                    bytes: [0u8; MAX_KEY_LEN],
                     len: 0,
                 },
             };
@@ -163,8 +168,12 @@ pub fn check_op(key: &[u8], value: &[u8]) -> Checked
     if reserved(key) {
         return Checked::Refused(Fault::ReservedKey);
     }
-    if 256 < value.len() {
-        return Checked::Refused(Fault::CapacityExceeded(CapacityKind::Value, value.len(), 256));
+    if MAX_VALUE_LEN < value.len() {
+        return Checked::Refused(Fault::CapacityExceeded(
+            CapacityKind::Value,
+            value.len(),
+            MAX_VALUE_LEN,
+        ));
     }
     Checked::Fine
 }
@@ -176,14 +185,14 @@ fn encode_entry(op: u8, key: &[u8], value: &[u8], out: &mut [u8]) -> CodecAnswer
     if let Checked::Refused(fault) = check_op(key, value) {
         return CodecAnswer::Refused(fault);
     }
-    let to = 2 + key.len();
+    let to = ENTRY_HEAD + key.len();
     let n = to + value.len();
     if out.len() < n {
         return CodecAnswer::Refused(Fault::Serialization(SerializationKind::BufferTooSmall));
     }
     out[0] = op;
     out[1] = key.len() as u8;
-    slices::copy_in(out, 2, key);
+    slices::copy_in(out, ENTRY_HEAD, key);
     slices::copy_in(out, to, value);
     CodecAnswer::Len(n)
 }
@@ -193,7 +202,7 @@ pub fn encode_op(kind: OpKind, key: &[u8], value: &[u8], out: &mut [u8]) -> Code
     ensures { λ r. ⌜ Encodes (opAs kind (now (key .entry)) (now (value .entry))) (now (out .entry)) (now (out .exit)) r ⌝ }
 {
     match kind {
-        OpKind::Put => encode_entry(0, key, value, out),
-        OpKind::Delete => encode_entry(1, key, &value[0..0], out),
+        OpKind::Put => encode_entry(OP_PUT, key, value, out),
+        OpKind::Delete => encode_entry(OP_DELETE, key, &value[0..0], out),
     }
 }

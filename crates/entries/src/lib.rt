@@ -1,39 +1,42 @@
 // A journal entry read: document 01, "Codecs". Every function takes any input and equals its definition in `definition/specs/Codec`;
 // `codec` passes them on.
+use definition::ENTRY_HEAD;
 use definition::Entry;
+use definition::MAX_KEY_LEN;
+use definition::MAX_VALUE_LEN;
+use definition::OP_DELETE;
+use definition::OP_PUT;
 ghost use mathlib.Core.Path.{_≡_};
 ghost use Rattle.definition.specs.Codec.{entryOf, keyPart, valuePart};
 ghost use Rattle.entries.specs.Forms.{EntryReads};
-
-const KEY_LIMIT: usize = 96;
 
 // What a journal entry's bytes say, tested in document 01's order.
 pub fn decode_entry(entry: &[u8]) -> Entry
     ensures { λ r. ⌜ EntryReads (now (entry .entry)) r ⌝ }
 {
-    if entry.len() < 2 {
+    if entry.len() < ENTRY_HEAD {
         return Entry::Corrupt;
     }
     let n = slices::wide(entry[1]);
-    let to = 2 + n;
+    let to = ENTRY_HEAD + n;
     if entry.len() < to {
         return Entry::Corrupt;
     }
-    if KEY_LIMIT < n {
+    if MAX_KEY_LEN < n {
         return Entry::Corrupt;
     }
-    if marks::reserved(&entry[2..to]) {
+    if marks::reserved(&entry[ENTRY_HEAD..to]) {
         return Entry::Corrupt;
     }
     let op = entry[0];
-    if op == 0 {
+    if op == OP_PUT {
         let value = entry.len() - to;
-        if 256 < value {
+        if MAX_VALUE_LEN < value {
             return Entry::Corrupt;
         }
         return Entry::Put(n);
     }
-    if op == 1 {
+    if op == OP_DELETE {
         return Entry::Delete(n);
     }
     Entry::Corrupt
@@ -45,12 +48,12 @@ pub fn key_part(entry: &[u8]) -> &[u8]
 {
     match decode_entry(entry) {
         Entry::Put(n) => {
-            let to = 2 + n;
-            &entry[2..to]
+            let to = ENTRY_HEAD + n;
+            &entry[ENTRY_HEAD..to]
         }
         Entry::Delete(n) => {
-            let to = 2 + n;
-            &entry[2..to]
+            let to = ENTRY_HEAD + n;
+            &entry[ENTRY_HEAD..to]
         }
         Entry::Corrupt => &entry[0..0],
     }
@@ -62,7 +65,7 @@ pub fn value_part(entry: &[u8]) -> &[u8]
 {
     match decode_entry(entry) {
         Entry::Put(n) => {
-            let from = 2 + n;
+            let from = ENTRY_HEAD + n;
             &entry[from..]
         }
         Entry::Delete(n) => &entry[0..0],

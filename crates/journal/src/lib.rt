@@ -5,6 +5,7 @@ use definition::Answer;
 use definition::CodecAnswer;
 use definition::Fault;
 use definition::Health;
+use definition::JOURNAL_ENTRY_MAX;
 use definition::Reply;
 use definition::Step;
 use items::FetchAnswer;
@@ -26,9 +27,6 @@ ghost use Rattle.region.specs.Places.{spotted, InSpot};
 ghost use Rattle.items.specs.Forms.{Ran};
 ghost use Rattle.gate.specs.Forms.{Says};
 
-// The longest entry: the operation byte, the key's length, a key of 96 and a value of 256.
-const ENTRY_LEN: usize = 354;
-
 // ---- one operation that passed the batch's tests
 
 // Stores the operation's entry under its journal key.
@@ -45,7 +43,7 @@ pub fn write_entry(
     requires { ⌜ opFault (opAs kind (now key) (now value)) ≡ none ⌝ }
     ensures { λ r. ⌜ Ran (store flat (item (journalKey index) (encode (opAs kind (now (key .entry)) (now (value .entry)))))) (now (region .entry)) (now (script .entry)) step (now (region .exit)) r ⌝ }
 {
-    let mut entry = [0u8; ENTRY_LEN];
+    let mut entry = [0u8; JOURNAL_ENTRY_MAX];
     let encoded = codec::encode_op(kind, key, value, &mut entry);
     let CodecAnswer::Len(n) = encoded else {
         // Not reached: what passed the tests fits.

@@ -2,9 +2,13 @@
 // the calls, so that a limit is proved, and a wrong one refused, by itself.
 use codec::Checked;
 use codec::Key;
+use definition::ADDRESS_END;
 use definition::CapacityKind;
 use definition::Fault;
 use definition::Health;
+use definition::MAX_VALUE_LEN;
+use definition::MIN_REGION;
+use definition::PAGE_SIZE;
 use definition::RegionKind;
 ghost use mathlib.Core.Path.{_≡_};
 ghost use Rattle.definition.specs.Calls;
@@ -16,8 +20,12 @@ ghost use Rattle.limits.specs.Forms.{retried};
 pub fn check_put(key: &[u8], value: &[u8]) -> Checked
     ensures { λ r. ⌜ Checks (putFault (now (key .entry)) (now (value .entry))) (now (key .entry)) (now (value .entry)) r ⌝ }
 {
-    if 256 < value.len() {
-        return Checked::Refused(Fault::CapacityExceeded(CapacityKind::Value, value.len(), 256));
+    if MAX_VALUE_LEN < value.len() {
+        return Checked::Refused(Fault::CapacityExceeded(
+            CapacityKind::Value,
+            value.len(),
+            MAX_VALUE_LEN,
+        ));
     }
     if codec::reserved(key) {
         return Checked::Refused(Fault::ReservedKey);
@@ -57,21 +65,21 @@ pub fn unstorable(key: &[u8]) -> bool
 pub fn check_region(start: u32, len: usize) -> Checked
     ensures { λ r. ⌜ r ≡ checkedOf (regionFault start len) ⌝ }
 {
-    if 4294967296 <= len {
+    if ADDRESS_END <= len {
         return Checked::Refused(Fault::BadRegion(RegionKind::TooHigh));
     }
     let start = start as usize;
     let end = start + len;
-    if 4294967296 <= end {
+    if ADDRESS_END <= end {
         return Checked::Refused(Fault::BadRegion(RegionKind::TooHigh));
     }
-    if start % 4096 != 0 {
+    if start % PAGE_SIZE != 0 {
         return Checked::Refused(Fault::BadRegion(RegionKind::StartNotPageAligned));
     }
-    if end % 4096 != 0 {
+    if end % PAGE_SIZE != 0 {
         return Checked::Refused(Fault::BadRegion(RegionKind::EndNotPageAligned));
     }
-    if len < 8192 {
+    if len < MIN_REGION {
         return Checked::Refused(Fault::BadRegion(RegionKind::TooSmall));
     }
     Checked::Fine

@@ -1,6 +1,10 @@
 // The bookkeeping keys and the marker: document 01, "Codecs", and of "Recovery and health" the test of a marker's count. Every function takes any
 // input and equals its definition in `definition/specs/Codec` and `Recovery`; `codec` passes the codecs on.
+use definition::JOURNAL_ITEM_MIN_BYTES;
+use definition::JOURNAL_TAG;
+use definition::MARKER_TAG;
 use definition::Marker;
+use definition::RESERVED_PREFIX;
 ghost use mathlib.Core.Path.{_≡_};
 ghost use Rattle.definition.specs.Codec;
 ghost use Rattle.definition.specs.Codec.{journalKey, marker, markerKey};
@@ -15,7 +19,7 @@ pub fn reserved(key: &[u8]) -> bool
     if key.len() == 0 {
         return false;
     }
-    key[0] == 0
+    key[0] == RESERVED_PREFIX
 }
 
 // How many user records a record with this key is: request C-11 counts them.
@@ -31,13 +35,18 @@ pub fn user_count(key: &[u8]) -> usize
 pub fn marker_key() -> [u8; 2]
     ensures { λ r. ⌜ r ≡ markerKey ⌝ }
 {
-    [0, 0x63]
+    [RESERVED_PREFIX, MARKER_TAG]
 }
 
 pub fn journal_key(index: u16) -> [u8; 4]
     ensures { λ r. ⌜ r ≡ journalKey index ⌝ }
 {
-    [0, 0x6a, (index / 256) as u8, (index % 256) as u8]
+    [
+        RESERVED_PREFIX,
+        JOURNAL_TAG,
+        (index / 256) as u8,
+        (index % 256) as u8,
+    ]
 }
 
 // A marker: the count and its complement, so that a torn one does not agree with itself.
@@ -75,5 +84,5 @@ pub fn too_many(len: usize, count: usize) -> bool
     if count == 65535 {
         return true;
     }
-    len / 15 < count
+    len / JOURNAL_ITEM_MIN_BYTES < count
 }

@@ -3,6 +3,7 @@
 // it stands in says what is done with it, and the last of a pass does what comes behind the pass.
 use codec::Checked;
 use definition::Answer;
+use definition::BATCH_MAX;
 use definition::BatchOp;
 use definition::CapacityKind;
 use definition::Fault;
@@ -24,9 +25,6 @@ ghost use Rattle.definition.specs.Public.{outcome, applyOps};
 ghost use Rattle.items.specs.Forms.{failureOf};
 ghost use Rattle.gate.specs.Forms.{replyOf};
 ghost use Rattle.operations.specs.Passes.{turnOf, overOf, repliedOf, Begun, Behind, guarded, closed, Turn, Turned, Looked};
-
-// The most operations: an index has two bytes, and 65535 is the erased pattern.
-const BATCH_LIMIT: usize = 65534;
 
 // The passes over the list, in document 01's order; then there is an answer.
 pub enum Pass {
@@ -123,8 +121,8 @@ fn shape(op: BatchOp, pool: &[u8], work: Work) -> Work
     if next < count {
         return turn(Pass::Shape, next, count, health, step);
     }
-    if BATCH_LIMIT < count {
-        let fault = Fault::CapacityExceeded(CapacityKind::BatchOperations, count, BATCH_LIMIT);
+    if BATCH_MAX < count {
+        let fault = Fault::CapacityExceeded(CapacityKind::BatchOperations, count, BATCH_MAX);
         return over(count, Answer::Refused(fault), health, step);
     }
     turn(Pass::Tests, 0, count, health, step)

@@ -2,18 +2,16 @@
 // kind 2 delete with no value, ending exactly. Nothing above this crate knows a byte of a list; an operation's parts are `region::key_at` and
 // `region::value_at`.
 use codec::OpKind;
+use definition::DELETE_KIND;
+use definition::HEAD_SIZE;
+use definition::KEY_LEN_AT;
+use definition::PUT_KIND;
+use definition::VALUE_LEN_AT;
 ghost use mathlib.Core.Path.{_≡_};
 ghost use Prim.Native.Nat.{_+_, _<_};
 ghost use lib.ListN.{length};
 ghost use Rattle.definition.specs.OperationList.{opsOf};
 ghost use Rattle.oplist.specs.Places.{Visit, shapeOf};
-
-// The bytes in front of a key.
-const HEAD_SIZE: usize = 9;
-
-const PUT_KIND: usize = 1;
-
-const DELETE_KIND: usize = 2;
 
 // What stands at a place: an operation, its key's and its value's length and the place behind it; or none.
 pub enum Next {
@@ -38,8 +36,8 @@ pub fn op_at(list: &[u8], at: usize) -> Next
     if left < HEAD_SIZE {
         return Next::Nothing;
     }
-    let klen = slices::wide(list[at + 8]);
-    let vlen = slices::le16_at(list, at + 6);
+    let klen = slices::wide(list[at + KEY_LEN_AT]);
+    let vlen = slices::le16_at(list, at + VALUE_LEN_AT);
     let size = region::size(klen, vlen);
     if left < size {
         return Next::Nothing;

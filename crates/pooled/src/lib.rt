@@ -2,13 +2,16 @@
 // pool, and a part outside it, or another kind, is no operation. Nothing above this crate knows how a struct names a part.
 use codec::OpKind;
 use definition::BatchOp;
+use definition::DELETE_KIND;
+use definition::PUT_KIND;
 ghost use mathlib.Core.Path.{_≡_};
 ghost use mathlib.Core.Bool.{true};
 ghost use Rattle.pooled.specs.Parts.{partAt, inside, isKind, isOp, kindOf};
 
-const PUT_KIND: u8 = 1;
+// The kinds of an operation list, as a struct has them.
+const PUT: u8 = PUT_KIND as u8;
 
-const DELETE_KIND: u8 = 2;
+const DELETE: u8 = DELETE_KIND as u8;
 
 // Whether a part ends within the pool; no sum is made that could wrap.
 fn is_inside(pool: &[u8], at: usize, len: usize) -> bool
@@ -24,10 +27,10 @@ fn is_inside(pool: &[u8], at: usize, len: usize) -> bool
 fn is_kind(op: BatchOp) -> bool
     ensures { λ r. ⌜ r ≡ isKind op ⌝ }
 {
-    if op.kind == PUT_KIND {
+    if op.kind == PUT {
         return true;
     }
-    if op.kind == DELETE_KIND {
+    if op.kind == DELETE {
         return op.value_len == 0;
     }
     false
@@ -50,7 +53,7 @@ pub fn is_op(pool: &[u8], op: BatchOp) -> bool
 pub fn kind_of(op: BatchOp) -> OpKind
     ensures { λ r. ⌜ r ≡ kindOf op ⌝ }
 {
-    if op.kind == PUT_KIND {
+    if op.kind == PUT {
         return OpKind::Put;
     }
     OpKind::Delete

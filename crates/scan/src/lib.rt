@@ -2,6 +2,7 @@
 // pass are then written to the output. Every function is equal to its definition in `definition/specs/Scan`.
 use codec::Checked;
 use definition::Fault;
+use definition::SCAN_WINDOW;
 use definition::ScanEnd;
 use definition::Step;
 use items::ItemAnswer;
@@ -9,7 +10,6 @@ use items::NextAnswer;
 use region::Next;
 use windows::Last;
 use windows::Place;
-use windows::SCAN_WINDOW;
 use windows::ScanWindow;
 ghost use mathlib.Core.Path.{_≡_};
 ghost use mathlib.Core.Bool.{true};

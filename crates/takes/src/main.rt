@@ -1,8 +1,10 @@
 // Document 01's console: each line of standard input is a call on a store in memory, and each answer is a line of standard output.
 use definition::Answer;
+use definition::DELETE_KIND;
 use definition::Fault;
 use definition::GetAnswer;
 use definition::Health;
+use definition::PUT_KIND;
 use definition::ScanEnd;
 use definition::Space;
 use definition::State;
@@ -32,10 +34,6 @@ const IN_SIZE: usize = 4096;
 
 const OUT_SIZE: usize = 4096;
 
-// The kinds of a list's records.
-const PUT_KIND: usize = 1;
-
-const DELETE_KIND: usize = 2;
 // The longest key and the longest value that a list's record has fields for.
 const LIST_KEY_LIMIT: usize = 255;
 

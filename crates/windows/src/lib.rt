@@ -4,7 +4,9 @@ use codec::Checked;
 use codec::Key;
 use definition::CapacityKind;
 use definition::Fault;
+use definition::MAX_VALUE_LEN;
 use definition::Order;
+use definition::SCAN_WINDOW;
 ghost use mathlib.Core.Path.{_≡_};
 ghost use Prim.Native.Nat.{_+_, _≤_};
 ghost use lib.ListN.{length, take};
@@ -14,11 +16,6 @@ ghost use Rattle.definition.specs.Scan.{rising, insert};
 ghost use Rattle.codec.specs.Forms.{checkedOf};
 ghost use Rattle.slices.specs.Written.{written};
 ghost use Rattle.windows.specs.Forms.{put, filled, Parts, placeKey, placeItem, Held, Lasts, LastHeld, lastKey, windowItems, Sane, Holds};
-
-// How many places a window has.
-pub const SCAN_WINDOW: usize = 8;
-// The longest value that a caller may be handed.
-const MAX_VALUE_LEN: usize = 256;
 
 // Where a record stands, and its key's and its value's length.
 pub struct Place {
