@@ -1,14 +1,14 @@
 -- What each return of the functions says, over plain variables.
-use mathlib.Core.Path.{_≡_, refl, sym, ap, _∙_}
+use mathlib.Core.Path.{_≡_, refl, sym, ap, ap₂, _∙_}
 use mathlib.Core.Bool.{true, false}
 use mathlib.Core.List.{[], _∷_}
-use Prim.Native.Nat.{ℕ, _-_, _/_, _<_}
+use Prim.Native.Nat.{ℕ, _+_, _/_, _<_}
 use native.Mathlib.Omega.{arith}
 use lib.ListN.{length, getD}
 use lib.Dec.{eqb, ltb}
 use borrow.Author.Tests.{ne-eqb, eq-eqb}
 use Rattle.definition.specs.Tools.{Bytes}
-use Rattle.definition.specs.Codec.{reserved, be16At, markerOf}
+use Rattle.definition.specs.Codec.{reserved, be16At, markerSum, markerOf}
 use Rattle.definition.specs.Recovery.{tooMany}
 use Rattle.definition.proofs.Choices.{picked, passed, pick-yes, pick-no}
 use Rattle.definition.specs.declared.Marker.the-variants.{Count, Unread}
@@ -30,17 +30,19 @@ module _ (v : Bytes) where
   marker-long h = record { is = passed _ _ _ (ne-eqb _ _ h) refl; short = tt }
 
   module _ (h : length v ≡ 4) {a b : ℕ} (ea : a ≡ be16At v 0) (eb : b ≡ be16At v 2) where
-    pub marker-torn : (b ≡ 65535 - a → ⊥) → MarkerReads v Unread
+    both : be16At v 0 + be16At v 2 ≡ a + b
+    both = ap₂ (λ (x y : ℕ). x + y) (sym ea) (sym eb)
+
+    pub marker-torn : (a + b ≡ markerSum → ⊥) → MarkerReads v Unread
     unfolding markerOf
     marker-torn n =
-        let z : be16At v 2 ≡ 65535 - be16At v 0 → ⊥ = λ e. n (eb ∙ e ∙ ap (λ x. 65535 - x) (sym ea)) in
+        let z : be16At v 0 + be16At v 2 ≡ markerSum → ⊥ = λ e. n (sym both ∙ e) in
         record { is = picked _ _ _ (eq-eqb _ _ h) (passed _ _ _ (ne-eqb _ _ z) refl); short = tt }
 
-    pub marker-counts : a < 65536 → b ≡ 65535 - a → MarkerReads v (Count a)
+    pub marker-counts : a < 65536 → a + b ≡ markerSum → MarkerReads v (Count a)
     unfolding markerOf
     marker-counts l e =
-        let z : be16At v 2 ≡ 65535 - be16At v 0 = sym eb ∙ e ∙ ap (λ x. 65535 - x) ea in
-        record { is = picked _ _ _ (eq-eqb _ _ h) (picked _ _ _ (eq-eqb _ _ z) (ap Count ea)); short = l }
+        record { is = picked _ _ _ (eq-eqb _ _ h) (picked _ _ _ (eq-eqb _ _ (both ∙ e)) (ap Count ea)); short = l }
 
 -- ---- a marker's count
 

@@ -49,11 +49,14 @@ pub fn journal_key(index: u16) -> [u8; 4]
     ]
 }
 
-// A marker: the count and its complement, so that a torn one does not agree with itself.
+// What a marker's two numbers add up to.
+const MARKER_SUM: u16 = 65535;
+
+// A marker: the count, and what it lacks of 65535, so that a torn one does not agree with itself.
 pub fn encode_marker(count: u16) -> [u8; 4]
     ensures { λ r. ⌜ r ≡ marker count ⌝ }
 {
-    let complement = 65535 - count;
+    let complement = MARKER_SUM - count;
     [
         (count / 256) as u8,
         (count % 256) as u8,
@@ -71,7 +74,8 @@ pub fn decode_marker(bytes: &[u8]) -> Marker
     }
     let count = slices::be16_at(bytes, 0);
     let check = slices::be16_at(bytes, 2);
-    if check != 65535 - count {
+    let sum = count + check;
+    if sum != MARKER_SUM as usize {
         return Marker::Unread;
     }
     Marker::Count(count)
