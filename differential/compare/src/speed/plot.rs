@@ -48,7 +48,12 @@ fn series<'a>(before: &'a [Measured], after: Option<&'a [Measured]>) -> Vec<Seri
         line("one pass", "#999999", newer, "pass"),
         line("original, less work", "#56b4e9", newer, "less"),
         line("original, same work", "#0072b2", newer, "same"),
-        line("proved, before", "#d55e00", before, "proved"),
+        line(
+            if after.is_some() { "proved, before" } else { "proved" },
+            "#d55e00",
+            before,
+            "proved",
+        ),
     ];
     if let Some(after) = after {
         all.push(line("proved, after", "#009e73", after, "proved"));
