@@ -108,9 +108,9 @@ fn measure(subject: &dyn Subject, shape: &Shape, case: &Case, clock: Duration) -
 fn turn(subject: &dyn Subject, case: &Case, ops: &[BatchOp], clock: Duration) -> (Turn, u64) {
     let Case { name, image, call } = case;
     let state = State { space: walk(image), ..State::default() };
-    let (mut region, mut out) = (image.clone(), call.output());
     let (pass, _) = timed(clock, || pass(black_box(image)));
     let (wide, _) = timed(clock, || wide_pass(black_box(image)));
+    let (mut region, mut out) = (image.clone(), call.output());
     let (proved, outcome) =
         timed(clock, || call.on_subject(subject, &mut region, &[], state, &mut out));
     let original = |work, out: &mut [u8]| {
