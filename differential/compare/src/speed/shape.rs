@@ -30,12 +30,14 @@ const fn plain(len: usize, records: usize, value: usize) -> Shape {
 
 /// Few large records, and many small ones, in each region; then the keys that
 /// are the worst for the image test.
-pub const SHAPES: [Shape; 12] = [
+pub const SHAPES: [Shape; 14] = [
     plain(8 << 10, 10, 256),
     plain(8 << 10, 120, 4),
     plain(64 << 10, 200, 256),
+    plain(64 << 10, 300, 160),
     plain(64 << 10, 600, 80),
     plain(64 << 10, 2400, 4),
+    plain(128 << 10, 1000, 80),
     plain(1 << 20, 3000, 256),
     plain(1 << 20, 10_000, 80),
     plain(4 << 20, 12_000, 256),
