@@ -7,7 +7,7 @@ use Rattle.definition.specs.Region.{Item, good, roomIn, storeIn, removeIn, look
 use Rattle.definition.specs.Space.{spaceOf}
 use Rattle.definition.specs.Script.{fate, stepped}
 use Rattle.definition.specs.Program.{World, world, ok, bad, exec, ask, change, keeping, ran, done, flat, store, remove, fetch, step}
-use Rattle.definition.proofs.Choices.{pick-no}
+use Rattle.definition.proofs.Choices.{pick-no, true≢false}
 use Rattle.definition.proofs.Running.{given, exec-one}
 use Rattle.definition.specs.declared.Space.{Space}
 use Rattle.definition.specs.declared.Step.{Step}
@@ -26,7 +26,7 @@ use Rattle.items.specs.declared.ItemAnswer.{ItemAnswer}
 use Rattle.items.specs.declared.ItemAnswer.the-variants.{Done, Failed}
 use Rattle.items.specs.declared.FetchAnswer.the-variants.{Got, Missed}
 use Rattle.items.specs.declared.NextAnswer.the-variants.{Met, Unmet}
-use Rattle.items.specs.Forms.{Ran, itemRun, Fetches, Visits}
+use Rattle.items.specs.Forms.{Ran, itemRun, Fetches, Visits, hasEffect, answeredOf}
 
 -- what does not fit changes nothing
 pub full-same : (i : Item) (s : Bytes) → roomIn i s ≡ false → storeIn i s ≡ s
@@ -109,19 +109,18 @@ module _ (i : Item) {s script : Bytes} {t : Step} {v : Verdict} {n : Step} (ev :
   unfolding store
   store-failed p e g = failed (roomIn i) (storeIn i) s script t ev en p e g
 
-module _ (k : Bytes) {s script : Bytes} {t : Step} {v : Verdict} {n : Step} (ev : v ≡ fate script t) (en : n ≡ stepped script t) where
+module _ (k : Bytes) {s script : Bytes} {t : Step} {n : Step} (en : n ≡ stepped script t) where
   module _ {b : Bytes} {m : Space} (h : Removes k s b m) {u : Step} (eu : u ≡ keeping (λ x. m) n) where
-    pub remove-done : v ≡ Pass → Ran (remove flat k) s script t b (Done u)
-    unfolding remove
-    remove-done p = wrote (λ s. true) (removeIn k) s script t ev en (h .now) (h .space) eu p refl
+    pub remove-effect : (v : Verdict) → v ≡ fate script t → hasEffect v ≡ true → {a : ItemAnswer} → a ≡ answeredOf v u → Ran (remove flat k) s script t b a
+    unfolding remove hasEffect
+    remove-effect Pass ev e ea = rw ea (wrote (λ s. true) (removeIn k) s script t ev en (h .now) (h .space) eu refl refl)
+    remove-effect (Fail x y) ev e ea = rw ea (failed-on (λ s. true) (removeIn k) s script t ev en (h .now) (h .space) eu refl e refl)
 
-    pub remove-failed-on : {x : Fault} {e : Bool} → v ≡ Fail x e → e ≡ true → Ran (remove flat k) s script t b (Failed x u)
-    unfolding remove
-    remove-failed-on p e = failed-on (λ s. true) (removeIn k) s script t ev en (h .now) (h .space) eu p e refl
-
-  pub remove-failed : {x : Fault} {e : Bool} → v ≡ Fail x e → e ≡ false → good s ≡ true → Ran (remove flat k) s script t s (Failed x n)
-  unfolding remove
-  remove-failed p e g = failed (λ s. true) (removeIn k) s script t ev en p e g
+  pub remove-none : (v : Verdict) → v ≡ fate script t → hasEffect v ≡ false → good s ≡ true → {a : ItemAnswer} → a ≡ answeredOf v n
+      → Ran (remove flat k) s script t s a
+  unfolding remove hasEffect
+  remove-none Pass ev e g ea = absurd (true≢false refl e)
+  remove-none (Fail x y) ev e g ea = rw ea (failed (λ s. true) (removeIn k) s script t ev en refl e g)
 
 -- ---- reads: their fate alone decides
 
@@ -162,15 +161,32 @@ module _ (s script : Bytes) (t : Step) {v : Verdict} {n : Step} (ev : v ≡ fate
   unfolding step
   next-unmet {at} {x} {e} p = record { met = tt; is = sym (read-failed (λ s. tt) e p) }
 
--- ---- what a removal that is done has done
+-- ---- what a call that writes and is done has done: its effect, and the numbers kept are true
 
-pub removed-is : (k : Bytes) {s script b : Bytes} {t t1 : Step} {r : ItemAnswer} → Ran (remove flat k) s script t b r → r ≡ Done t1 → b ≡ removeIn k s
-unfolding remove given done
-removed-is k {s} {script} {b} {t} {t1} {r} h e =
-    go (fate script t) (sym (change-of (λ s. true) (removeIn k) s script t refl refl) ∙ sym (h .is) ∙ ap (itemRun b script) e)
-  where
-    go : (v : Verdict) → given (λ s. tt {0}) (done v true (removeIn k s) (λ m. spaceOf (removeIn k s)) s script (stepped script t)) ≡ ok tt (world b script t1)
-        → b ≡ removeIn k s
-    go Pass p = let q : world b script t1 ≡ world (removeIn k s) script (keeping (λ m. spaceOf (removeIn k s)) (stepped script t)) = cc in ap (λ (w : World Bytes). w .region) q
-    go (Fail x true) p = cc
-    go (Fail x false) p = cc
+pub record Wrote (g : Bytes → Bytes) (s b : Bytes) (t : Step) : Type 0 where
+  pub is : b ≡ g s
+  pub counted : t .space ≡ spaceOf b
+
+module _ (f : Bytes → Bool) (g : Bytes → Bytes) {s script b : Bytes} {t t1 : Step} {r : ItemAnswer} where
+  change-done : Ran (change flat f g) s script t b r → r ≡ Done t1 → Wrote g s b t1
+  unfolding given done
+  change-done h e = go (fate script t) (f s) (sym (change-of f g s script t refl refl) ∙ sym (h .is) ∙ ap (itemRun b script) e)
+    where
+      go : (v : Verdict) (y : Bool) → given (λ s. tt {0}) (done v y (g s) (λ m. spaceOf (g s)) s script (stepped script t)) ≡ ok tt (world b script t1) → Wrote g s b t1
+      go Pass true p =
+          let q : world b script t1 ≡ world (g s) script (keeping (λ m. spaceOf (g s)) (stepped script t)) = cc in
+          let eb : b ≡ g s = ap (λ (w : World Bytes). w .region) q in
+          record { is = eb; counted = ap (λ (w : World Bytes). w .step .space) q ∙ ap spaceOf (sym eb) }
+      go Pass false p = record { is = cc; counted = cc }
+      go (Fail x true) true p = record { is = cc; counted = cc }
+      go (Fail x true) false p = record { is = cc; counted = cc }
+      go (Fail x false) y p = record { is = cc; counted = cc }
+
+module _ {s script b : Bytes} {t t1 : Step} {r : ItemAnswer} where
+  pub store-wrote : (i : Item) → Ran (store flat i) s script t b r → r ≡ Done t1 → Wrote (storeIn i) s b t1
+  unfolding store
+  store-wrote i h e = change-done (roomIn i) (storeIn i) h e
+
+  pub remove-wrote : (k : Bytes) → Ran (remove flat k) s script t b r → r ≡ Done t1 → Wrote (removeIn k) s b t1
+  unfolding remove
+  remove-wrote k h e = change-done (λ s. true) (removeIn k) h e

@@ -1,7 +1,7 @@
--- The forms of contracts from the item calls up: what a function that was lent a region ran, and what it answers. They are indexed by the
--- program, so that a caller's proof can go along its calls.
+-- The forms of contracts from the item calls up: what a function that was lent a region ran, and what it answers.
+-- They are indexed by the program, so that a caller's proof can go along its calls.
 use mathlib.Core.Path.{_≡_}
-use mathlib.Core.Bool.{true}
+use mathlib.Core.Bool.{Bool, true}
 use mathlib.Core.Option.{Option}
 use Prim.Native.Nat.{ℕ}
 use Rattle.definition.specs.Tools.{Bytes}
@@ -61,6 +61,15 @@ MetAt s at (Unmet f t) = Unit {0}
 pub record Visits (s script : Bytes) (at : ℕ) (t : Step) (r : NextAnswer) : Type 0 where
   pub is : nextRun s script r ≡ exec (step flat) (world s script t)
   pub met : MetAt s at r
+
+-- whether a removal of this fate takes effect, and what it answers
+unfoldable pub hasEffect : Verdict → Bool
+hasEffect Pass = true
+hasEffect (Fail f e) = e
+
+abbrev pub answeredOf : Verdict → Step → ItemAnswer
+answeredOf Pass t = Done t
+answeredOf (Fail f e) t = Failed f t
 
 -- the answers of reads whose fate is not to pass
 abbrev pub missedOf : Verdict → Step → FetchAnswer

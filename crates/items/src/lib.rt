@@ -1,5 +1,5 @@
-// The item calls of document 01: the fault script over the region. Each spends one step of the script, and is equal to the run of its one-call
-// program in `definition/specs/Program`.
+// The item calls of document 01: the fault script over the region. Each spends one step of the script, and is equal
+// to the run of its one-call program in `definition/specs/Program`.
 use definition::Fault;
 use definition::Space;
 use definition::Step;
@@ -11,9 +11,10 @@ ghost use mathlib.Core.Path.{_≡_};
 ghost use mathlib.Core.Bool.{true};
 ghost use lib.ListN.{length};
 ghost use Rattle.definition.specs.Region.{item, good, allowed};
+ghost use Rattle.definition.specs.Space.{spaceOf};
 ghost use Rattle.definition.specs.Program;
 ghost use Rattle.definition.specs.Program.{flat};
-ghost use Rattle.items.specs.Forms.{Ran, Fetches, Visits, missedOf, unmetOf, unfetchedOf, stoppedOf, failureOf};
+ghost use Rattle.items.specs.Forms.{Ran, Fetches, Visits, hasEffect, answeredOf, missedOf, unmetOf, unfetchedOf, stoppedOf, failureOf};
 
 // What a store, a removal or an opened iteration answers.
 pub enum ItemAnswer {
@@ -76,6 +77,26 @@ pub fn store(region: &mut [u8], script: &[u8], key: &[u8], value: &[u8], step: S
     ItemAnswer::Failed(fault, next)
 }
 
+// Whether a removal of this fate takes effect.
+fn takes_effect(verdict: Verdict) -> bool
+    ensures { λ r. ⌜ r ≡ hasEffect verdict ⌝ }
+{
+    match verdict {
+        Verdict::Pass => true,
+        Verdict::Fail(_, effect) => effect,
+    }
+}
+
+// What a removal of this fate answers.
+fn answered(verdict: Verdict, step: Step) -> ItemAnswer
+    ensures { λ r. ⌜ r ≡ answeredOf verdict step ⌝ }
+{
+    match verdict {
+        Verdict::Pass => ItemAnswer::Done(step),
+        Verdict::Fail(fault, _) => ItemAnswer::Failed(fault, step),
+    }
+}
+
 // Removes the item with a key; an absent key is a success.
 pub fn remove(region: &mut [u8], script: &[u8], key: &[u8], step: Step) -> ItemAnswer
     requires { ⌜ good (now region) ≡ true ⌝ }
@@ -83,15 +104,33 @@ pub fn remove(region: &mut [u8], script: &[u8], key: &[u8], step: Step) -> ItemA
 {
     let next = script::stepped(script, step);
     let verdict = script::fate(script, step);
-    let Verdict::Fail(fault, effect) = verdict else {
+    if takes_effect(verdict) {
         let space = region::remove(region, key);
-        return ItemAnswer::Done(keeping(space, next));
-    };
-    if effect {
-        let space = region::remove(region, key);
-        return ItemAnswer::Failed(fault, keeping(space, next));
+        return answered(verdict, keeping(space, next));
     }
-    ItemAnswer::Failed(fault, next)
+    answered(verdict, next)
+}
+
+// The same where it is known what the region holds, as it is after a call that wrote: no record behind the one with
+// the key is looked at.
+pub fn remove_counted(
+    region: &mut [u8],
+    script: &[u8],
+    key: &[u8],
+    held: Space,
+    step: Step,
+) -> ItemAnswer
+    requires { ⌜ good (now region) ≡ true ⌝ }
+    requires { ⌜ held ≡ spaceOf (now region) ⌝ }
+    ensures { λ r. ⌜ Ran (Program.remove flat (now (key .entry))) (now (region .entry)) (now (script .entry)) step (now (region .exit)) r ⌝ }
+{
+    let next = script::stepped(script, step);
+    let verdict = script::fate(script, step);
+    if takes_effect(verdict) {
+        let space = region::remove_counted(region, key, held);
+        return answered(verdict, keeping(space, next));
+    }
+    answered(verdict, next)
 }
 
 // A fetch's answer where its fate is not to pass.

@@ -1,5 +1,6 @@
--- A key's hash, and a table of prints: what the table says of a hash, and what is true after one is noted. No answer of the image test depends on
--- what a hash is, only on equal keys having equal ones; so nothing here has to be believed.
+-- A key's hash, and a table of prints: what the table says of a hash, and what is true after one is noted. No answer
+-- of the image test depends on what a hash is, only on equal keys having equal ones; so nothing here has to be
+-- believed.
 use mathlib.Core.Path.{_≡_}
 use mathlib.Core.Bool.{Bool, true, false}
 use mathlib.Core.List.{List, [], _∷_}
@@ -55,8 +56,8 @@ lookLength = 16
 abbrev pub tableSize : ℕ
 tableSize = 4112
 
--- whether the print f may have been noted at i or behind it, n places in all: prints stand there without a gap, and a look that met neither the
--- print nor a gap cannot tell
+-- whether the print f may have been noted at i or behind it, n places in all: prints stand there without a gap, and a
+-- look that met neither the print nor a gap cannot tell
 unfoldable pub holds : ℕ → Bytes → ℕ → ℕ → Bool
 holds zero t i f = true
 holds (suc n) t i f = pick (eqb (getD t i 0) 0) false (pick (eqb (getD t i 0) f) true (holds n t (i + 1) f))

@@ -1,6 +1,7 @@
-// Which keys a walk has passed, in a table of fixed size: a key leaves a print, one byte of its hash, and the table says of another key that it is
-// new, or that it may have been passed. The contracts say no more of a table than the image test needs: what was noted stays noted. Its
-// numbers decide only how long a test takes; docs/DECISIONS.md, "The image test", says why they are these.
+// Which keys a walk has passed, in a table of fixed size: a key leaves a print, one byte of its hash, and the table
+// says of another key that it is new, or that it may have been passed. The contracts say no more of a table than the
+// image test needs: what was noted stays noted. Its numbers decide only how long a test takes; docs/DECISIONS.md,
+// "The image test", says why they are these.
 ghost use mathlib.Core.Path.{_≡_};
 ghost use Prim.Native.Nat.{_<_, _≤_};
 ghost use lib.ListN.{length};
@@ -23,8 +24,8 @@ pub const TABLE: usize = 4112;
 
 // ---- a key's hash
 
-// Two bytes more. The middle of the product is kept: its low end is a sum of multiples, by which keys that differ alike get hashes that differ
-// alike.
+// Two bytes more. The middle of the product is kept: its low end is a sum of multiples, by which keys that differ
+// alike get hashes that differ alike.
 fn mix(h: usize, x: usize) -> usize
     requires { ⌜ (h < word) × (x < 65536) ⌝ }
     ensures { λ r. ⌜ (r ≡ mixed h x) × (r < word) ⌝ }
@@ -76,8 +77,8 @@ pub fn class_of(h: usize, n: usize) -> usize
 
 // ---- a table
 
-// Notes a hash, and says whether it may have been noted before: its print stands at its first place or behind it with no gap between, or a look
-// found no gap. Only a gap is written to, so that no print is lost.
+// Notes a hash, and says whether it may have been noted before: its print stands at its first place or behind it with
+// no gap between, or a look found no gap. Only a gap is written to, so that no print is lost.
 pub fn note(table: &mut [u8; TABLE], h: usize) -> bool
     requires { ⌜ (h < word) × (length (now table) ≡ tableSize) ⌝ }
     ensures { λ r. ⌜ Notes (now (table .entry)) h (now (table .exit)) r ⌝ }

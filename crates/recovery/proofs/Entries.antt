@@ -9,6 +9,7 @@ use lib.Seq.{take-at, length-take-le}
 use Rattle.definition.specs.Tools.{Bytes, opt}
 use Rattle.definition.specs.Codec.{Op, Put, Delete, journalKey, entryOf, keyPart, valuePart, opOf, decode, laid}
 use Rattle.definition.specs.Region.{item, good, allowed}
+use Rattle.definition.specs.Space.{spaceOf}
 use Rattle.definition.specs.Program.{ret, flat, store, remove}
 use Rattle.definition.specs.Recovery.{act, land, redoEntry, redo}
 use Rattle.definition.proofs.Choices.{opt-none, opt-some}
@@ -33,6 +34,7 @@ use Rattle.items.specs.declared.ItemAnswer.the-variants.{Done, Failed}
 use Rattle.items.specs.declared.FetchAnswer.{FetchAnswer}
 use Rattle.items.specs.declared.FetchAnswer.the-variants.{Got, Missed}
 use Rattle.items.specs.Forms.{Ran, Fetches, unfetchedOf}
+use Rattle.items.proofs.Laws.{store-wrote, remove-wrote}
 use Rattle.items.proofs.Along.{ran-as, runs-err, runs-ret, done-ran, failed-ran, seq-failed, seq-on, fetch-seq-failed, fetch-seq-on}
 
 -- ---- a copy
@@ -63,6 +65,12 @@ module _ {kind : OpKind} (k v : Bytes) where
     pub acts-delete : kind ≡ K.Delete → Ran (remove flat k) s script t b r → Ran (act flat (opAs kind k v)) s script t b r
     unfolding opAs act
     acts-delete q x = ran-as (ap (λ (o : OpKind). act flat (opAs o k v)) q) x
+
+-- an operation that is done has counted
+pub act-counted : (op : Op) {s script b : Bytes} {t t1 : Step} {r : ItemAnswer} → Ran (act flat op) s script t b r → r ≡ Done t1 → t1 .space ≡ spaceOf b
+unfolding act
+act-counted (Put k v) h e = store-wrote (item k v) h e .counted
+act-counted (Delete k) h e = remove-wrote k h e .counted
 
 module _ (i : ℕ) (op : Op) {s script b : Bytes} {t : Step} {r : ItemAnswer} (h : Ran (act flat op) s script t b r) where
   pub land-failed : {f : Fault} {t1 : Step} → r ≡ Failed f t1 → Ran (land flat i op) s script t b r

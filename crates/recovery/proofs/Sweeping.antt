@@ -25,7 +25,7 @@ use Rattle.items.specs.declared.ItemAnswer.the-variants.{Done, Failed}
 use Rattle.items.specs.declared.NextAnswer.{NextAnswer}
 use Rattle.items.specs.declared.NextAnswer.the-variants as A
 use Rattle.items.specs.Forms.{Ran, itemRun, Visits, MetAt, stoppedOf}
-use Rattle.items.proofs.Laws.{removed-is}
+use Rattle.items.proofs.Laws.{remove-wrote}
 use Rattle.items.proofs.Along.{Left, left-start, left-as, left-end, left-turn, ran-done, ran-runs, runs-ran, runs-ret, runs-see, then-failed, done-ran, next-done, next-failed, seq-failed, seq-on}
 
 -- ---- the iteration
@@ -100,7 +100,7 @@ module _ {s script : Bytes} {t : Step} {b : Bytes} {t1 : Step} (l : Dropping s s
     drop-failed q = runs-ran r (left-end rest-drop (ran-runs (seq-failed (λ x. dropEach flat (journalKeys (removed k (items b)))) a q)))
 
     items-left : {t2 : Step} → r ≡ Done t2 → items b2 ≡ removed k (items b)
-    items-left q = ap items (removed-is k a q) ∙ remove-items b (l .fine) k
+    items-left q = ap items (remove-wrote k a q .is) ∙ remove-items b (l .fine) k
 
     pub drop-on : {t2 : Step} → r ≡ Done t2 → Dropping s script t b2 t2
     drop-on q =

@@ -1,4 +1,5 @@
-// Document 01, "Recovery and health": a committed batch is finished from its journal, and what is left of any other is dropped.
+// Document 01, "Recovery and health": a committed batch is finished from its journal, and what is left of any other
+// is dropped.
 use codec::OpKind;
 use definition::Entry;
 use definition::Fault;
@@ -96,8 +97,10 @@ pub fn land(
     let ItemAnswer::Done(next) = acted else {
         return acted;
     };
+    // A write that is done has counted; the journal item mostly stands near the front, and no walk goes on behind it.
+    let held = next.space;
     let journal_key = codec::journal_key(index);
-    items::remove(region, script, &journal_key, next)
+    items::remove_counted(region, script, &journal_key, held, next)
 }
 
 // Does what a journal entry says.
@@ -158,6 +161,7 @@ fn drop_each(region: &mut [u8], script: &[u8], step: Step) -> ItemAnswer
     requires { ⌜ good (now region) ≡ true ⌝ }
     ensures { λ r. ⌜ Ran (dropEach flat (journalKeys (items (now (region .entry))))) (now (region .entry)) (now (script .entry)) step (now (region .exit)) r ⌝ }
 {
+    let mut held = region::space(region);
     let mut step = step;
     loop {
         let spot = region::first_journal(region);
@@ -165,10 +169,11 @@ fn drop_each(region: &mut [u8], script: &[u8], step: Step) -> ItemAnswer
             return ItemAnswer::Done(step);
         };
         let key = copied(region, at, len);
-        let removed = items::remove(region, script, &key[..len], step);
+        let removed = items::remove_counted(region, script, &key[..len], held, step);
         let ItemAnswer::Done(next) = removed else {
             return removed;
         };
+        held = next.space;
         step = next;
     }
 }

@@ -1,5 +1,5 @@
--- The items that a walk has passed are kept the last one first, so that one more stands in front of them: the list backwards, and what holds of
--- it if it holds of the list.
+-- The items that a walk has passed are kept the last one first, so that one more stands in front of them: the list
+-- backwards, and what holds of it if it holds of the list.
 use mathlib.Core.Path.{_≡_, refl, sym, ap, _∙_}
 use mathlib.Core.Bool.{true, false}
 use mathlib.Core.List.{List, [], _∷_, _++_, append-assoc, append-nil}

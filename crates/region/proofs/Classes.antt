@@ -1,5 +1,5 @@
--- The image test's walk for a class: none of the keys of its class that it has passed occurs twice, and each has left its print. Where that is so
--- for every class, no key occurs twice.
+-- The image test's walk for a class: none of the keys of its class that it has passed occurs twice, and each has left
+-- its print. Where that is so for every class, no key occurs twice.
 use mathlib.Core.Path.{_≡_, refl, sym, ap, ap₂, _∙_, subst}
 use mathlib.Core.Bool.{Bool, true, false, not}
 use mathlib.Core.List.{List, [], _∷_, _++_, append-nil}

@@ -1,4 +1,5 @@
--- A walk that trusts: in a region that is whole, one byte of a place tells a record from the tail, and its lengths are all that is read.
+-- A walk that trusts: in a region that is whole, one byte of a place tells a record from the tail, and its lengths
+-- are all that is read.
 use mathlib.Core.Path.{_≡_, refl, sym, _∙_}
 use mathlib.Core.Bool.{true}
 use mathlib.Core.List.{[]}

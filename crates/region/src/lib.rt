@@ -1,6 +1,6 @@
-// The region's bytes: the image test, the records by place and by key, and the two item calls that write. Document 01 defines them in "The
-// region and its items"; the contracts say that each function is that definition. Nothing above this crate knows a byte of a record, but
-// for the lengths and heads that it passes on from `records`.
+// The region's bytes: the image test, the records by place and by key, and the two item calls that write. Document 01
+// defines them in "The region and its items"; the contracts say that each function is that definition. Nothing above
+// this crate knows a byte of a record, but for the lengths and heads that it passes on from `records`.
 use definition::Space;
 use prints::TABLE;
 use records::HEAD_SIZE;
@@ -77,8 +77,9 @@ fn left_from(region: &[u8], at: usize) -> usize
     }
 }
 
-// A walk over the items starts at 0, and goes from each place to the next until there is nothing. A record is told by its bytes: they are
-// compared with those that its lengths give. What else may stand there is no matter here, so that a walk's end costs no look at the tail.
+// A walk over the items starts at 0, and goes from each place to the next until there is nothing. A record is told by
+// its bytes: they are compared with those that its lengths give. What else may stand there is no matter here, so that
+// a walk's end costs no look at the tail.
 pub fn next_item(region: &[u8], at: usize) -> Next
     ensures { λ r. ⌜ Visit (now (region .entry)) at r ⌝ }
 {
@@ -102,8 +103,8 @@ pub fn next_item(region: &[u8], at: usize) -> Next
     Next::Item(klen, vlen, next)
 }
 
-// The same where the region is known to be whole from there on: no record is compared with itself again. 0xFF is no key's length, so that one byte
-// tells a record from the tail.
+// The same where the region is known to be whole from there on: no record is compared with itself again. 0xFF is no
+// key's length, so that one byte tells a record from the tail.
 fn next_whole(region: &[u8], at: usize) -> Next
     requires { ⌜ whole (drop at (now region)) ≡ true ⌝ }
     ensures { λ r. ⌜ Visit (now (region .entry)) at r ⌝ }
@@ -169,8 +170,7 @@ pub fn fetch(region: &[u8], key: &[u8]) -> Spot
     Spot::At(from, vlen)
 }
 
-// ---- the image test: `good` is its definition, and is_good is proved equal to it. Each key is asked for in a table of prints, and only one that the
-// table may have met before is looked for among the records before it.
+// ---- the image test
 
 // Whether only 0xFF follows the records. How many they are is a hint for what follows, and no contract says it.
 fn sweep(region: &[u8]) -> Swept
@@ -233,7 +233,8 @@ fn is_distinct_in(region: &[u8], class: usize, classes: usize) -> bool
     }
 }
 
-// Whether no key occurs twice, of about so many: a walk for each class, of which there are so many that a table has room for the keys of one.
+// Whether no key occurs twice, of about so many: a walk for each class, of which there are so many that a table has
+// room for the keys of one.
 fn is_distinct(region: &[u8], keys: usize) -> bool
     requires { ⌜ whole (now region) ≡ true ⌝ }
     ensures { λ r. ⌜ r ≡ distinct (items (now (region .entry))) ⌝ }
@@ -249,7 +250,8 @@ fn is_distinct(region: &[u8], keys: usize) -> bool
     true
 }
 
-// Whether the image is good.
+// Whether the image is good, which `good` defines by comparing each key with all others. Here a key leaves a print in
+// a table, and only one whose print may stand there already is looked for among the records before it.
 pub fn is_good(region: &[u8]) -> bool
     ensures { λ r. ⌜ r ≡ good (now (region .entry)) ⌝ }
 {
@@ -401,7 +403,8 @@ fn old_span(found: Found) -> usize
     span(klen, vlen)
 }
 
-// The room rule, in one place: "Full exactly if used bytes, less the old record, plus the new one exceed L." No sum, so that none wraps.
+// The room rule, in one place: "Full exactly if used bytes, less the old record, plus the new one exceed L." No sum,
+// so that none wraps.
 fn has_room(used: usize, old: usize, new: usize, len: usize) -> bool
     requires { ⌜ (old ≤ used) × (used ≤ len) ⌝ }
     ensures { λ r. ⌜ r ≡ leb (used - old + new) len ⌝ }
@@ -410,8 +413,8 @@ fn has_room(used: usize, old: usize, new: usize, len: usize) -> bool
     new <= len - end
 }
 
-// Drops the record that was found under a key and closes the gap; none found changes nothing. What the region then holds is reckoned from
-// what it held, so that no walk is made for it.
+// Drops the record that was found under a key and closes the gap; none found changes nothing. What the region then
+// holds is reckoned from what it held, so that no walk is made for it.
 fn drop_found(region: &mut [u8], key: &[u8], before: Space, found: Found) -> Space
     requires { ⌜ good (now region) ≡ true ⌝ }
     requires { ⌜ before ≡ spaceOf (now region) ⌝ }
@@ -440,6 +443,16 @@ pub fn remove(region: &mut [u8], key: &[u8]) -> Space
     let seen = survey(region, key);
     let before = seen.space;
     let found = seen.found;
+    drop_found(region, key, before, found)
+}
+
+// The same where it is known what the region holds: the walk ends at the record.
+pub fn remove_counted(region: &mut [u8], key: &[u8], before: Space) -> Space
+    requires { ⌜ good (now region) ≡ true ⌝ }
+    requires { ⌜ before ≡ spaceOf (now region) ⌝ }
+    ensures { λ r. ⌜ Removes (now (key .entry)) (now (region .entry)) (now (region .exit)) r ⌝ }
+{
+    let found = find(region, key);
     drop_found(region, key, before, found)
 }
 

@@ -1,4 +1,5 @@
-use Rattle.items.proofs.Laws.{remove-done, remove-failed-on, remove-failed}
+use mathlib.Core.Path.{sym, _∙_}
+use Rattle.items.proofs.Laws.{remove-effect, remove-none}
 use borrow.Author.Needs.{needs}
 use Rattle.items.proofs.remove.Statement.{statement}
 use Rattle.items.proofs.remove.Tie as tie
@@ -9,11 +10,8 @@ stepped-requires c κs = search needs
 fate-requires : tie.Need-fate-requires
 fate-requires c κs = search needs
 
-enum-known-verdict : tie.Need-enum-known-verdict
-enum-known-verdict c = search needs
-
-enum-told : tie.Need-enum-told
-enum-told c = search needs
+takes-effect-requires : tie.Need-takes-effect-requires
+takes-effect-requires c κs = search needs
 
 remove-requires : tie.Need-remove-requires
 remove-requires c κs = search needs
@@ -21,26 +19,27 @@ remove-requires c κs = search needs
 keeping-requires : tie.Need-keeping-requires
 keeping-requires c κs = search needs
 
+answered-requires : tie.Need-answered-requires
+answered-requires c κs = search needs
+
 same-length : tie.Need-same-length
 same-length c = search needs
 
 returns : tie.Need-returns
-returns c = remove-done _ (c .before .before .before .before .before .before .before .fate .ensures) (c .before .before .before .before .before .before .before .before .stepped .ensures) (c .before .before .before .remove .ensures) (c .keeping .ensures) (c .before .before .before .before .before .enum-told .given .1)
+returns c =
+    let w = c .before .before .before .before in
+    let f = w .before .before .before .before in
+    remove-effect _ (f .before .stepped .ensures) (w .remove .ensures) (c .before .keeping .ensures) _ (f .fate .ensures)
+    (sym (w .before .before .before .takes-effect .ensures) ∙ w .before .before .if1 .taken) (c .answered .ensures)
 
-remove-requires-2 : tie.Need-remove-requires-2
-remove-requires-2 c κs = search needs
-
-keeping-requires-2 : tie.Need-keeping-requires-2
-keeping-requires-2 c κs = search needs
-
-same-length-2 : tie.Need-same-length-2
-same-length-2 c = search needs
+answered-requires-2 : tie.Need-answered-requires-2
+answered-requires-2 c κs = search needs
 
 returns-2 : tie.Need-returns-2
-returns-2 c = remove-failed-on _ (c .before .before .before .before .before .before .before .before .before .fate .ensures) (c .before .before .before .before .before .before .before .before .before .before .stepped .ensures) (c .before .before .before .remove2 .ensures) (c .keeping2 .ensures) (c .before .before .before .before .before .before .before .verdict .given .1) (c .before .before .before .before .before .if1 .taken)
-
-returns-3 : tie.Need-returns-3
-returns-3 c = remove-failed _ (c .before .before .before .before .fate .ensures) (c .before .before .before .before .before .stepped .ensures) (c .before .before .verdict .given .1) (c .if1 .left) (c .before .before .before .before .before .before .before .before .before .pre)
+returns-2 c =
+    let f = c .before .before .before in
+    remove-none _ (f .before .stepped .ensures) _ (f .fate .ensures) (sym (c .before .before .takes-effect .ensures) ∙ c .before .if1 .left)
+    (f .before .before .before .before .before .pre) (c .answered2 .ensures)
 
 pub remove-spec : {M : Type 1} → statement M
 remove-spec =
@@ -48,14 +47,11 @@ remove-spec =
     (tie.spec
     stepped-requires
     fate-requires
-    enum-known-verdict
-    enum-told
+    takes-effect-requires
     remove-requires
     keeping-requires
+    answered-requires
     same-length
     returns
-    remove-requires-2
-    keeping-requires-2
-    same-length-2
-    returns-2
-    returns-3)
+    answered-requires-2
+    returns-2)

@@ -1,4 +1,4 @@
-use Rattle.recovery.proofs.Entries.{land-failed, land-on}
+use Rattle.recovery.proofs.Entries.{act-counted, land-failed, land-on}
 use borrow.Author.Needs.{needs}
 use Rattle.recovery.proofs.land.Statement.{statement}
 use Rattle.recovery.proofs.land.Tie as tie
@@ -21,17 +21,17 @@ returns c = land-failed _ _ (c .before .before .before .before .act .ensures) (c
 journal-key-requires : tie.Need-journal-key-requires
 journal-key-requires c κs = search needs
 
-slice-aggregate-remove : tie.Need-slice-aggregate-remove
-slice-aggregate-remove c = search needs
+slice-aggregate-remove-counted : tie.Need-slice-aggregate-remove-counted
+slice-aggregate-remove-counted c = search needs
 
-remove-requires : tie.Need-remove-requires
-remove-requires c κs = search needs
+remove-counted-requires : tie.Need-remove-counted-requires
+remove-counted-requires c κs = let e = act-counted _ (c .before .before .before .before .before .before .before .before .before .act .ensures) (c .before .before .before .before .before .acted .given .1) in search needs
 
 same-length-2 : tie.Need-same-length-2
 same-length-2 c = search needs
 
 returns-2 : tie.Need-returns-2
-returns-2 c = land-on _ _ (c .before .before .before .before .before .before .before .before .before .before .before .act .ensures) (c .before .before .before .before .before .before .before .acted .given .1) (c .before .before .before .before .before .journal-key .ensures) (c .before .before .remove .ensures)
+returns-2 c = land-on _ _ (c .before .before .before .before .before .before .before .before .before .before .before .before .act .ensures) (c .before .before .before .before .before .before .before .before .acted .given .1) (c .before .before .before .before .before .journal-key .ensures) (c .before .before .remove-counted .ensures)
 
 pub land-spec : {M : Type 1} → statement M
 land-spec =
@@ -43,7 +43,7 @@ land-spec =
     same-length
     returns
     journal-key-requires
-    slice-aggregate-remove
-    remove-requires
+    slice-aggregate-remove-counted
+    remove-counted-requires
     same-length-2
     returns-2)
