@@ -3,6 +3,7 @@
 use codec::OpKind;
 use definition::Entry;
 use definition::Fault;
+use definition::ITEM_BUFFER_LEN;
 use definition::JournalPart;
 use definition::Marker;
 use definition::Step;
@@ -49,11 +50,11 @@ fn iterate_all(region: &[u8], script: &[u8], step: Step) -> ItemAnswer
 }
 
 // Bytes of the region, copied so that the region can be written.
-fn copied(region: &[u8], at: usize, len: usize) -> [u8; 482]
+fn copied(region: &[u8], at: usize, len: usize) -> [u8; ITEM_BUFFER_LEN]
     requires { ⌜ (at + len ≤ length (now region)) × (len ≤ 482) ⌝ }
     ensures { λ r. ⌜ take len r ≡ take len (drop at (now (region .entry))) ⌝ }
 {
-    let mut bytes = [0u8; 482];
+    let mut bytes = [0u8; ITEM_BUFFER_LEN];
     slices::copy_out(region, at, len, &mut bytes);
     bytes
 }

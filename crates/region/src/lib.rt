@@ -1,10 +1,13 @@
 // The region's bytes: the image test, the records by place and by key, and the two item calls that write. Document 01
 // defines them in "The region and its items"; the contracts say that each function is that definition. Nothing above
 // this crate knows a byte of a record, but for the lengths and heads that it passes on from `records`.
+use definition::ERASED;
+use definition::HEAD_SIZE;
+use definition::ITEM_KIND;
+use definition::KEY_LEN_AT;
 use definition::Space;
+use definition::VALUE_LEN_AT;
 use prints::TABLE;
-use records::HEAD_SIZE;
-use records::ITEM_KIND;
 pub use records::agrees;
 pub use records::header;
 pub use records::is_allowed;
@@ -26,7 +29,7 @@ ghost use Rattle.region.specs.Classes.{isSwept, Tried, DistinctIn};
 ghost use Rattle.region.specs.Changes.{Counted, Surveyed, Removes, Stores};
 
 // What stands where a key's length would, behind the records.
-const ERASED: usize = 255;
+const NO_KEY_LEN: usize = ERASED as usize;
 
 // What a walk meets at a place: a record's key length, value length and the next place; or the walk is over.
 pub enum Next {
@@ -87,8 +90,8 @@ pub fn next_item(region: &[u8], at: usize) -> Next
     if left < HEAD_SIZE {
         return Next::Nothing;
     }
-    let klen = slices::wide(region[at + 8]);
-    let vlen = slices::le16_at(region, at + 6);
+    let klen = slices::wide(region[at + KEY_LEN_AT]);
+    let vlen = slices::le16_at(region, at + VALUE_LEN_AT);
     if !is_allowed(klen, vlen) {
         return Next::Nothing;
     }
@@ -113,11 +116,11 @@ fn next_whole(region: &[u8], at: usize) -> Next
     if left < HEAD_SIZE {
         return Next::Nothing;
     }
-    let klen = slices::wide(region[at + 8]);
-    if klen == ERASED {
+    let klen = slices::wide(region[at + KEY_LEN_AT]);
+    if klen == NO_KEY_LEN {
         return Next::Nothing;
     }
-    let vlen = slices::le16_at(region, at + 6);
+    let vlen = slices::le16_at(region, at + VALUE_LEN_AT);
     let taken = span(klen, vlen);
     let next = at + taken;
     Next::Item(klen, vlen, next)
