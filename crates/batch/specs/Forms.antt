@@ -8,7 +8,8 @@ use Rattle.definition.specs.Codec.{batchLimit}
 use Rattle.definition.specs.Calls.{opsFault}
 use Rattle.oplist.specs.Places.{Walk, opsFrom}
 
--- a walk over the list l stands at `at`, before the operation of this index: what is left passed the tests, and the indices reach for it
+-- a walk over the list l stands at `at`, before the operation of this index: what is left passed the tests, and the
+-- indices reach for it
 pub record Tested (l : Bytes) (at index : ℕ) : Type 0 where
   pub walk : Walk l at
   pub fine : opsFault (opsFrom l at) ≡ none

@@ -1,5 +1,5 @@
-// apply_batch over a lent operation list. Document 01 defines it in "Calls", under batch: tests, recovery, journal, marker, application. The
-// functions are split where the definition's programs are; each walks the list by place.
+// apply_batch over a lent operation list. Document 01 defines it in "Calls", under batch: tests, recovery, journal,
+// marker, application. The functions are split where the definition's programs are; each walks the list by place.
 use codec::Checked;
 use definition::Answer;
 use definition::BATCH_MAX;
@@ -74,7 +74,8 @@ fn check_batch(list: &[u8], count: usize) -> Checked
 fn journal(region: &mut [u8], script: &[u8], list: &[u8], step: Step) -> ItemAnswer
     requires { ⌜ good (now region) ≡ true ⌝ }
     requires { ⌜ Tested (now list) 0 0 ⌝ }
-    ensures { λ r. ⌜ Ran (Calls.journal flat 0 (opsIn (now (list .entry)))) (now (region .entry)) (now (script .entry)) step (now (region .exit)) r ⌝ }
+    ensures { λ r. ⌜ Ran (Calls.journal flat 0 (opsIn (now (list .entry)))) (now (region .entry))
+        (now (script .entry)) step (now (region .exit)) r ⌝ }
 {
     let mut step = step;
     let mut at: usize = 0;
@@ -105,7 +106,8 @@ fn journal(region: &mut [u8], script: &[u8], list: &[u8], step: Step) -> ItemAns
 fn apply(region: &mut [u8], script: &[u8], list: &[u8], step: Step) -> ItemAnswer
     requires { ⌜ good (now region) ≡ true ⌝ }
     requires { ⌜ Tested (now list) 0 0 ⌝ }
-    ensures { λ r. ⌜ Ran (Calls.apply flat 0 (opsIn (now (list .entry)))) (now (region .entry)) (now (script .entry)) step (now (region .exit)) r ⌝ }
+    ensures { λ r. ⌜ Ran (Calls.apply flat 0 (opsIn (now (list .entry)))) (now (region .entry)) (now (script .entry))
+        step (now (region .exit)) r ⌝ }
 {
     let mut step = step;
     let mut at: usize = 0;
@@ -138,7 +140,8 @@ fn apply(region: &mut [u8], script: &[u8], list: &[u8], step: Step) -> ItemAnswe
 fn apply_all(region: &mut [u8], script: &[u8], list: &[u8], step: Step) -> Reply
     requires { ⌜ good (now region) ≡ true ⌝ }
     requires { ⌜ Tested (now list) 0 0 ⌝ }
-    ensures { λ r. ⌜ Says (applyAll flat (opsIn (now (list .entry)))) (now (region .entry)) (now (script .entry)) step (now (region .exit)) (r .answer) (r .state) (r .calls) [] ⌝ }
+    ensures { λ r. ⌜ Says (applyAll flat (opsIn (now (list .entry)))) (now (region .entry)) (now (script .entry)) step
+        (now (region .exit)) (r .answer) (r .state) (r .calls) [] ⌝ }
 {
     let applied = apply(region, script, list, step);
     let ItemAnswer::Done(next) = applied else {
@@ -154,7 +157,8 @@ fn commit(region: &mut [u8], script: &[u8], count: u16, list: &[u8], step: Step)
     requires { ⌜ good (now region) ≡ true ⌝ }
     requires { ⌜ Tested (now list) 0 0 ⌝ }
     requires { ⌜ count ≡ length (opsIn (now list)) ⌝ }
-    ensures { λ r. ⌜ Says (Calls.commit flat (opsIn (now (list .entry)))) (now (region .entry)) (now (script .entry)) step (now (region .exit)) (r .answer) (r .state) (r .calls) [] ⌝ }
+    ensures { λ r. ⌜ Says (Calls.commit flat (opsIn (now (list .entry)))) (now (region .entry)) (now (script .entry))
+        step (now (region .exit)) (r .answer) (r .state) (r .calls) [] ⌝ }
 {
     let marked = journal::write_marker(region, script, count, step);
     let ItemAnswer::Done(next) = marked else {
@@ -171,7 +175,8 @@ fn journal_all(region: &mut [u8], script: &[u8], count: u16, list: &[u8], step: 
     requires { ⌜ good (now region) ≡ true ⌝ }
     requires { ⌜ Tested (now list) 0 0 ⌝ }
     requires { ⌜ count ≡ length (opsIn (now list)) ⌝ }
-    ensures { λ r. ⌜ Says (journalAll flat (opsIn (now (list .entry)))) (now (region .entry)) (now (script .entry)) step (now (region .exit)) (r .answer) (r .state) (r .calls) [] ⌝ }
+    ensures { λ r. ⌜ Says (journalAll flat (opsIn (now (list .entry)))) (now (region .entry)) (now (script .entry))
+        step (now (region .exit)) (r .answer) (r .state) (r .calls) [] ⌝ }
 {
     let journalled = journal(region, script, list, step);
     let ItemAnswer::Done(next) = journalled else {
@@ -192,7 +197,8 @@ fn batch(
     requires { ⌜ good (now region) ≡ true ⌝ }
     requires { ⌜ Walk (now list) 0 ⌝ }
     requires { ⌜ count ≡ length (opsIn (now list)) ⌝ }
-    ensures { λ r. ⌜ Says (Calls.batch flat (opsIn (now (list .entry))) health) (now (region .entry)) (now (script .entry)) step (now (region .exit)) (r .answer) (r .state) (r .calls) [] ⌝ }
+    ensures { λ r. ⌜ Says (Calls.batch flat (opsIn (now (list .entry))) health) (now (region .entry))
+        (now (script .entry)) step (now (region .exit)) (r .answer) (r .state) (r .calls) [] ⌝ }
 {
     if count == 0 {
         return gate::reply(Answer::Ok, health, step);
@@ -211,7 +217,8 @@ fn batch(
 // The list's shape, before anything of its operations.
 fn batch_of(region: &mut [u8], script: &[u8], list: &[u8], health: Health, step: Step) -> Reply
     requires { ⌜ good (now region) ≡ true ⌝ }
-    ensures { λ r. ⌜ Says (batchOf flat (opsOf (now (list .entry))) health) (now (region .entry)) (now (script .entry)) step (now (region .exit)) (r .answer) (r .state) (r .calls) [] ⌝ }
+    ensures { λ r. ⌜ Says (batchOf flat (opsOf (now (list .entry))) health) (now (region .entry))
+        (now (script .entry)) step (now (region .exit)) (r .answer) (r .state) (r .calls) [] ⌝ }
 {
     let Shape::Listed(count) = oplist::shape_of(list) else {
         return gate::reply(Answer::Refused(Fault::BadList), health, step);
@@ -219,9 +226,15 @@ fn batch_of(region: &mut [u8], script: &[u8], list: &[u8], health: Health, step:
     batch(region, script, list, count, health, step)
 }
 
-// The image first: on a bad one nothing is read of the list, and no item call is made.
+// Does the operations of a list, all or none. Refusals, in order: 7 for a bad image and 17 for a list that is none; 2
+// for more than 65534 operations, and for each operation 2 for its key's length, 3 for a reserved key and 2 for its
+// value's length: none of these makes an item call. Then a recovery's fault, unless the store was Clean; a fault
+// while journalling, which leaves Debris and the batch out; 16 where nobody knows whether the marker stands, which
+// leaves Pending; and from the commit point on 15, which means that the batch is in and the next call lands it. An
+// empty list is Ok at once. On the console: `batch put a 2; del b` says `batch ok 8 clean`.
 pub fn apply_batch(region: &mut [u8], script: &[u8], state: State, list: &[u8]) -> Reply
-    ensures { λ r. ⌜ outcome (r .answer) (r .state) (r .calls) (now (region .exit)) [] ≡ applyBatch (now (region .entry)) (now (script .entry)) state (now (list .entry)) ⌝ }
+    ensures { λ r. ⌜ outcome (r .answer) (r .state) (r .calls) (now (region .exit)) []
+        ≡ applyBatch (now (region .entry)) (now (script .entry)) state (now (list .entry)) ⌝ }
 {
     if !region::is_good(region) {
         return Reply {

@@ -1,5 +1,6 @@
-// Document 01, "Codecs": keys and their order, and the journal entry written; the marker, the journal key and an entry read are passed on
-// from below. Every function takes any input and equals its definition in `definition/specs/Codec`.
+// Document 01, "Codecs": keys and their order, and the journal entry written; the marker, the journal key and an
+// entry read are passed on from below. Every function takes any input and equals its definition in
+// `definition/specs/Codec`.
 use definition::CapacityKind;
 use definition::CodecAnswer;
 use definition::ENTRY_HEAD;
@@ -105,7 +106,8 @@ impl Key {
 
     // Writes a key to the front of a buffer; a refusal leaves the buffer as it was.
     pub fn write(key: &[u8], out: &mut [u8]) -> CodecAnswer
-        ensures { λ r. ⌜ (r ≡ keyWrite (now (key .entry)) (length (now (out .entry)))) × (now (out .exit) ≡ laidIf r (keyBytes (now (key .entry))) (now (out .entry))) ⌝ }
+        ensures { λ r. ⌜ (r ≡ keyWrite (now (key .entry)) (length (now (out .entry)))) × (now (out .exit)
+            ≡ laidIf r (keyBytes (now (key .entry))) (now (out .entry))) ⌝ }
     {
         let n = key.len();
         if Key::MAX_LEN < n {
@@ -159,7 +161,8 @@ impl Key {
 
 // The batch's tests of an operation with this key and value, in their order; a delete has the empty value.
 pub fn check_op(key: &[u8], value: &[u8]) -> Checked
-    ensures { λ r. ⌜ Checks (opFault (Put (now (key .entry)) (now (value .entry)))) (now (key .entry)) (now (value .entry)) r ⌝ }
+    ensures { λ r. ⌜ Checks (opFault (Put (now (key .entry)) (now (value .entry)))) (now (key .entry))
+        (now (value .entry)) r ⌝ }
 {
     let len = key.len();
     if Key::MAX_LEN < len {
@@ -199,7 +202,8 @@ fn encode_entry(op: u8, key: &[u8], value: &[u8], out: &mut [u8]) -> CodecAnswer
 
 // Encodes an operation; a refusal leaves the buffer as it was. The value of a delete is not looked at.
 pub fn encode_op(kind: OpKind, key: &[u8], value: &[u8], out: &mut [u8]) -> CodecAnswer
-    ensures { λ r. ⌜ Encodes (opAs kind (now (key .entry)) (now (value .entry))) (now (out .entry)) (now (out .exit)) r ⌝ }
+    ensures { λ r. ⌜ Encodes (opAs kind (now (key .entry)) (now (value .entry))) (now (out .entry)) (now (out .exit))
+        r ⌝ }
 {
     match kind {
         OpKind::Put => encode_entry(OP_PUT, key, value, out),

@@ -1,5 +1,5 @@
-// A journal entry read: document 01, "Codecs". Every function takes any input and equals its definition in `definition/specs/Codec`;
-// `codec` passes them on.
+// A journal entry read: document 01, "Codecs". Every function takes any input and equals its definition in
+// `definition/specs/Codec`; `codec` passes them on.
 use definition::ENTRY_HEAD;
 use definition::Entry;
 use definition::MAX_KEY_LEN;

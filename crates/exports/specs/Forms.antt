@@ -1,4 +1,5 @@
--- What crosses to a host: states and replies as plain numbers, and what an exported call's reply says of the definition's outcome.
+-- What crosses to a host: states and replies as plain numbers, and what an exported call's reply says of the
+-- definition's outcome.
 use mathlib.Core.Path.{_≡_}
 use mathlib.Core.Bool.{Bool, true, false, not}
 use Prim.Native.Nat.{ℕ}

@@ -101,7 +101,8 @@ pub extern "C" fn takes_key_read(buffer: &[u8]) -> CKey
 
 #[no_mangle]
 pub extern "C" fn takes_key_write(key: &[u8], out: &mut [u8]) -> CCodec
-    ensures { λ r. ⌜ Writes (keyWrite (now (key .entry)) (length (now (out .entry)))) (keyBytes (now (key .entry))) (now (out .entry)) r (now (out .exit)) ⌝ }
+    ensures { λ r. ⌜ Writes (keyWrite (now (key .entry)) (length (now (out .entry)))) (keyBytes (now (key .entry)))
+        (now (out .entry)) r (now (out .exit)) ⌝ }
 {
     codec_out(Key::write(key, out))
 }
@@ -122,7 +123,9 @@ pub extern "C" fn takes_key_order(a: &[u8], b: &[u8]) -> u64
 
 #[no_mangle]
 pub extern "C" fn takes_entry_write(kind: u64, key: &[u8], value: &[u8], out: &mut [u8]) -> CCodec
-    ensures { λ r. ⌜ Writes (encodeInto (opAs (kindOf kind) (now (key .entry)) (now (value .entry))) (length (now (out .entry)))) (encode (opAs (kindOf kind) (now (key .entry)) (now (value .entry)))) (now (out .entry)) r (now (out .exit)) ⌝ }
+    ensures { λ r. ⌜ Writes (encodeInto (opAs (kindOf kind) (now (key .entry)) (now (value .entry))) (length
+        (now (out .entry)))) (encode (opAs (kindOf kind) (now (key .entry)) (now (value .entry)))) (now (out .entry))
+        r (now (out .exit)) ⌝ }
 {
     let kind = kind_of(kind);
     codec_out(codec::encode_op(kind, key, value, out))

@@ -1,5 +1,5 @@
-// The calls for a host in C or Rust: one exported function a call, over structs of plain numbers by value and lent slices. Only numbers cross; the
-// conversions are proved, and each function is its call of document 01 between them.
+// The calls for a host in C or Rust: one exported function a call, over structs of plain numbers by value and lent
+// slices. Only numbers cross; the conversions are proved, and each function is its call of document 01 between them.
 mod codecs;
 
 use definition::Answer;
@@ -20,8 +20,9 @@ ghost use mathlib.Core.Path.{_≡_};
 ghost use Rattle.definition.specs.Public;
 ghost use Rattle.exports.specs.Forms.{healthNumber, healthOf, flagNumber, stateIn, spaceOut, built, refused, answerOut, getOut, truthOut, endOut, scanOut, Replies, Gets, Truths, Lists};
 
-// What a host keeps: health 0 Clean, 1 Debris, 2 Pending; the place in the script; whether the power is cut; the bytes used and free, and the takes.
-// Every number has a meaning: any other health is Pending, which recovers before anything is read, and any cut but 0 is a cut that stands.
+// What a host keeps: health 0 Clean, 1 Debris, 2 Pending; the place in the script; whether the power is cut; the
+// bytes used and free, and the takes. Every number has a meaning: any other health is Pending, which recovers before
+// anything is read, and any cut but 0 is a cut that stands.
 #[repr(C)]
 pub struct CState {
     pub health: u64,
@@ -32,9 +33,10 @@ pub struct CState {
     pub takes: u64,
 }
 
-// What a host hears. answer: 0 refused, with document 01's number and values; 1 Ok, found, yes or finished; 2 absent, no or stopped; 3 no room.
-// length: bytes in the output; count: records in it. The six numbers from health to takes are the state to keep: handed back as a CState they are the
-// very state that the call left (proofs/HandedBack), so that what is promised of the calls is promised to a host.
+// What a host hears. answer: 0 refused, with document 01's number and values; 1 Ok, found, yes or finished; 2 absent,
+// no or stopped; 3 no room. length: bytes in the output; count: records in it. The six numbers from health to takes
+// are the state to keep: handed back as a CState they are the very state that the call left (proofs/HandedBack), so
+// that what is promised of the calls is promised to a host.
 #[repr(C)]
 pub struct CReply {
     pub answer: u64,
@@ -234,7 +236,8 @@ fn truth_reply_out(reply: TruthReply) -> CReply
 
 #[no_mangle]
 pub extern "C" fn takes_mount(region: &mut [u8], script: &[u8], start: u32, at: u64) -> CReply
-    ensures { λ r. ⌜ Replies r (now (region .exit)) (Public.mount (now (region .entry)) (now (script .entry)) start at) ⌝ }
+    ensures { λ r. ⌜ Replies r (now (region .exit)) (Public.mount (now (region .entry)) (now (script .entry)) start
+        at) ⌝ }
 {
     reply_out(store::mount(region, script, start, at as usize))
 }
@@ -247,7 +250,9 @@ pub extern "C" fn takes_get(
     key: &[u8],
     out: &mut [u8],
 ) -> CReply
-    ensures { λ r. ⌜ Gets r (now (region .exit)) (now (out .exit)) (Public.get (now (region .entry)) (now (script .entry)) (stateIn state) (now (key .entry)) (now (out .entry))) ⌝ }
+    ensures { λ r. ⌜ Gets r (now (region .exit)) (now (out .exit))
+        (Public.get (now (region .entry)) (now (script .entry)) (stateIn state) (now (key .entry)) (now (out .entry)))
+        ⌝ }
 {
     let state = state_in(state);
     get_reply_out(store::get(region, script, state, key, out))
@@ -260,7 +265,8 @@ pub extern "C" fn takes_contains(
     state: CState,
     key: &[u8],
 ) -> CReply
-    ensures { λ r. ⌜ Truths r (now (region .exit)) (Public.contains (now (region .entry)) (now (script .entry)) (stateIn state) (now (key .entry))) ⌝ }
+    ensures { λ r. ⌜ Truths r (now (region .exit)) (Public.contains (now (region .entry)) (now (script .entry))
+        (stateIn state) (now (key .entry))) ⌝ }
 {
     let state = state_in(state);
     truth_reply_out(store::contains(region, script, state, key))
@@ -274,7 +280,8 @@ pub extern "C" fn takes_put(
     key: &[u8],
     value: &[u8],
 ) -> CReply
-    ensures { λ r. ⌜ Replies r (now (region .exit)) (Public.put (now (region .entry)) (now (script .entry)) (stateIn state) (now (key .entry)) (now (value .entry))) ⌝ }
+    ensures { λ r. ⌜ Replies r (now (region .exit)) (Public.put (now (region .entry)) (now (script .entry)) (stateIn
+        state) (now (key .entry)) (now (value .entry))) ⌝ }
 {
     let state = state_in(state);
     reply_out(store::put(region, script, state, key, value))
@@ -287,7 +294,8 @@ pub extern "C" fn takes_delete(
     state: CState,
     key: &[u8],
 ) -> CReply
-    ensures { λ r. ⌜ Truths r (now (region .exit)) (Public.delete (now (region .entry)) (now (script .entry)) (stateIn state) (now (key .entry))) ⌝ }
+    ensures { λ r. ⌜ Truths r (now (region .exit)) (Public.delete (now (region .entry)) (now (script .entry)) (stateIn
+        state) (now (key .entry))) ⌝ }
 {
     let state = state_in(state);
     truth_reply_out(store::delete(region, script, state, key))
@@ -300,7 +308,8 @@ pub extern "C" fn takes_batch(
     state: CState,
     list: &[u8],
 ) -> CReply
-    ensures { λ r. ⌜ Replies r (now (region .exit)) (Public.applyBatch (now (region .entry)) (now (script .entry)) (stateIn state) (now (list .entry))) ⌝ }
+    ensures { λ r. ⌜ Replies r (now (region .exit)) (Public.applyBatch (now (region .entry)) (now (script .entry))
+        (stateIn state) (now (list .entry))) ⌝ }
 {
     let state = state_in(state);
     reply_out(batch::apply_batch(region, script, state, list))
@@ -314,7 +323,8 @@ pub extern "C" fn takes_ops(
     ops: &[BatchOp],
     pool: &[u8],
 ) -> CReply
-    ensures { λ r. ⌜ Replies r (now (region .exit)) (Public.applyOps (now (region .entry)) (now (script .entry)) (stateIn state) (now (ops .entry)) (now (pool .entry))) ⌝ }
+    ensures { λ r. ⌜ Replies r (now (region .exit)) (Public.applyOps (now (region .entry)) (now (script .entry))
+        (stateIn state) (now (ops .entry)) (now (pool .entry))) ⌝ }
 {
     let state = state_in(state);
     reply_out(operations::apply_ops(region, script, state, ops, pool))
@@ -329,7 +339,9 @@ pub extern "C" fn takes_scan(
     most: u64,
     out: &mut [u8],
 ) -> CReply
-    ensures { λ r. ⌜ Lists r (now (region .exit)) (now (out .exit)) (Public.scanPrefix (now (region .entry)) (now (script .entry)) (stateIn state) (now (prefix .entry)) most (now (out .entry))) ⌝ }
+    ensures { λ r. ⌜ Lists r (now (region .exit)) (now (out .exit))
+        (Public.scanPrefix (now (region .entry)) (now (script .entry)) (stateIn state) (now (prefix .entry)) most
+        (now (out .entry))) ⌝ }
 {
     let state = state_in(state);
     scan_reply_out(listing::scan_prefix(region, script, state, prefix, most as usize, out))

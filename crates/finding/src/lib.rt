@@ -1,5 +1,5 @@
-// One key looked up, and handed out or removed, in a store that is ready: document 01, "Calls". The public calls are `store::get`,
-// `store::contains` and `store::delete`.
+// One key looked up, and handed out or removed, in a store that is ready: document 01, "Calls". The public calls are
+// `store::get`, `store::contains` and `store::delete`.
 use definition::Fault;
 use definition::GetAnswer;
 use definition::GetReply;
@@ -49,7 +49,8 @@ pub fn get_key(
     out: &mut [u8],
 ) -> GetReply
     requires { ⌜ good (now region) ≡ true ⌝ }
-    ensures { λ r. ⌜ Gets (getKey flat (now (key .entry)) (length (now (out .entry))) health) (now (region .entry)) (now (script .entry)) step (now (region .entry)) r (now (out .entry)) (now (out .exit)) ⌝ }
+    ensures { λ r. ⌜ Gets (getKey flat (now (key .entry)) (length (now (out .entry))) health) (now (region .entry))
+        (now (script .entry)) step (now (region .entry)) r (now (out .entry)) (now (out .exit)) ⌝ }
 {
     let fetched = items::fetch(region, script, key, step);
     let FetchAnswer::Got(spot, next) = fetched else {
@@ -73,7 +74,8 @@ pub fn contains_key(
     step: Step,
 ) -> TruthReply
     requires { ⌜ good (now region) ≡ true ⌝ }
-    ensures { λ r. ⌜ Says (containsKey flat (now (key .entry)) health) (now (region .entry)) (now (script .entry)) step (now (region .entry)) (r .answer) (r .state) (r .calls) [] ⌝ }
+    ensures { λ r. ⌜ Says (containsKey flat (now (key .entry)) health) (now (region .entry)) (now (script .entry))
+        step (now (region .entry)) (r .answer) (r .state) (r .calls) [] ⌝ }
 {
     let fetched = items::fetch(region, script, key, step);
     let FetchAnswer::Got(spot, next) = fetched else {
@@ -93,7 +95,8 @@ fn delete_found(
     step: Step,
 ) -> TruthReply
     requires { ⌜ good (now region) ≡ true ⌝ }
-    ensures { λ r. ⌜ Says (deleteFound flat (now (key .entry)) health) (now (region .entry)) (now (script .entry)) step (now (region .exit)) (r .answer) (r .state) (r .calls) [] ⌝ }
+    ensures { λ r. ⌜ Says (deleteFound flat (now (key .entry)) health) (now (region .entry)) (now (script .entry))
+        step (now (region .exit)) (r .answer) (r .state) (r .calls) [] ⌝ }
 {
     let removed = items::remove(region, script, key, step);
     let ItemAnswer::Done(gone) = removed else {
@@ -110,7 +113,8 @@ pub fn delete_key(
     step: Step,
 ) -> TruthReply
     requires { ⌜ good (now region) ≡ true ⌝ }
-    ensures { λ r. ⌜ Says (deleteKey flat (now (key .entry)) health) (now (region .entry)) (now (script .entry)) step (now (region .exit)) (r .answer) (r .state) (r .calls) [] ⌝ }
+    ensures { λ r. ⌜ Says (deleteKey flat (now (key .entry)) health) (now (region .entry)) (now (script .entry)) step
+        (now (region .exit)) (r .answer) (r .state) (r .calls) [] ⌝ }
 {
     let fetched = items::fetch(region, script, key, step);
     let FetchAnswer::Got(spot, next) = fetched else {

@@ -27,7 +27,8 @@ use Rattle.gate.specs.declared.Converged.the-variants.{Ready, Failed}
 abbrev pub ConvergedBy : Bool → Health → Bytes → Bytes → Step → Bytes → Converged → Type 0
 ConvergedBy false h s script t b (Ready h1 t1) = (b ≡ s) × (h1 ≡ h) × (t1 ≡ t)
 ConvergedBy false h s script t b (Failed f t1) = ⊥
-ConvergedBy true h s script t b (Ready h1 t1) = (h1 ≡ Clean) × Runs (recover flat) s script t b (ok tt (world b script t1))
+ConvergedBy true h s script t b (Ready h1 t1) =
+    (h1 ≡ Clean) × Runs (recover flat) s script t b (ok tt (world b script t1))
 ConvergedBy true h s script t b (Failed f t1) = Runs (recover flat) s script t b (bad f (world b script t1))
 
 pub record Gate (needed : Bool) (h : Health) (s script : Bytes) (t : Step) (b : Bytes) (r : Converged) : Type 0 where
@@ -53,11 +54,12 @@ replyOf a h t = record { answer = a; state = stateOf h t; calls = t .calls }
 abbrev pub truthOf : TruthAnswer → Health → Step → TruthReply
 truthOf a h t = record { answer = a; state = stateOf h t; calls = t .calls }
 
--- p, run on the region s and the script from step t, leaves the good image b and says: the answer, the state to keep, the item calls made, and
--- the bytes for the output
+-- p, run on the region s and the script from step t, leaves the good image b and says: the answer, the state to keep,
+-- the item calls made, and the bytes for the output
 abbrev pub stands : State → ℕ → Step
 stands st n = record { at = st .at; cut = st .cut; calls = n; space = st .space }
 
-pub record Says {A : Type 0} (p : Prog Bytes (Said A)) (s script : Bytes) (t : Step) (b : Bytes) (a : A) (st : State) (n : ℕ) (out : Bytes) : Type 0 where
+pub record Says {A : Type 0} (p : Prog Bytes (Said A)) (s script : Bytes) (t : Step) (b : Bytes) (a : A) (st : State)
+    (n : ℕ) (out : Bytes) : Type 0 where
   pub fine : good b ≡ true
   pub is : ok (said a (st .health) out) (world b script (stands st n)) ≡ exec p (world s script t)

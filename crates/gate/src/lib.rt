@@ -1,5 +1,5 @@
-// What every public call begins and ends with: where it stands, the recovery that its health asks for, and its reply. Document 01 has it in
-// "Recovery and health" and in "Numbers a caller can hear".
+// What every public call begins and ends with: where it stands, the recovery that its health asks for, and its reply.
+// Document 01 has it in "Recovery and health" and in "Numbers a caller can hear".
 use definition::Answer;
 use definition::Fault;
 use definition::Health;

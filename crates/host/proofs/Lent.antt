@@ -1,10 +1,10 @@
--- A state record that is lent, in a walk: what every function of this crate does with it, said once. Each copies the record out (`opened`), calls its
--- covered function, stores the reply's state over the old one and returns the reply (`answered`).
---     SR, s-val    the record's row and its machine value
+-- A state record that is lent, in a walk: what every function of this crate does with it, said once. Each copies the
+-- record out (`opened`), calls its covered function, stores the reply's state over the old one and returns the reply
+-- (`answered`).     SR, s-val    the record's row and its machine value
 --     Kind         what a walk knows of a reply type: a struct whose field 1 is the state
---     Open, Shut   what is had of the record while its borrow is open: its cell, the open borrow and its ghost value; and while it is shut
---     handed       what a callee owns at entry: the tokens, the region and the script, the record's copy, and the others
---     freed        a local that holds a value is freed
+--     Open, Shut   what is had of the record while its borrow is open: its cell, the open borrow and its ghost value;
+-- and while it is shut     handed       what a callee owns at entry: the tokens, the region and the script, the
+-- record's copy, and the others     freed        a local that holds a value is freed
 use mathlib.Core.Path.{_≡_, refl, sym, ap, subst}
 use mathlib.Core.Option.{some as just}
 use Prim.Native.Nat.{ℕ, _+_}

@@ -1,6 +1,6 @@
--- A call with one lent slice besides the region and the script, and its host face: contains, delete and apply_batch are this one walk.
---     ended, clauses     the face's signature and contract. What the call says, `Says`, is said of the face, with the state it leaves
---     asked, said        the same of the call by value
+-- A call with one lent slice besides the region and the script, and its host face: contains, delete and apply_batch
+-- are this one walk.     ended, clauses     the face's signature and contract. What the call says, `Says`, is said of
+-- the face, with the state it leaves     asked, said        the same of the call by value
 --     function           the face's MIR, at the call's name
 --     one                the face meets its contract
 use mathlib.Core.Path.{_≡_, refl}

@@ -1,5 +1,5 @@
--- The parameters of a function that is walked: of each, its type, what is had of it at exit, the law of that, and how its machine values are spelled.
---     state        the lent record: still owned at exit
+-- The parameters of a function that is walked: of each, its type, what is had of it at exit, the law of that, and how
+-- its machine values are spelled.     state        the lent record: still owned at exit
 --     written      a `&mut [u8]`: given up to the call
 --     readOf       a `&[E]`: nothing is had of it, for nothing is said of it; `read` is a `&[u8]`
 --     word         a number, likewise

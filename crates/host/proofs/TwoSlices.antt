@@ -1,7 +1,7 @@
--- A call with a lent list and a lent slice of bytes besides the region and the script, and its host face: put and apply_ops are this one walk. The
--- list's elements are of the row E: bytes, or operation structs.
---     ended, clauses     the face's signature and contract. What the call says, `Says`, is said of the face, with the state it leaves
---     asked, said        the same of the call by value
+-- A call with a lent list and a lent slice of bytes besides the region and the script, and its host face: put and
+-- apply_ops are this one walk. The list's elements are of the row E: bytes, or operation structs.
+--     ended, clauses     the face's signature and contract. What the call says, `Says`, is said of the face, with the
+-- state it leaves     asked, said        the same of the call by value
 --     function           the face's MIR, at the call's name
 --     two                the face meets its contract
 use mathlib.Core.Path.{_≡_, refl}

@@ -1,4 +1,5 @@
--- How a function's proof goes along its calls: what was run so far, and then what follows a call's success or its failure.
+-- How a function's proof goes along its calls: what was run so far, and then what follows a call's success or its
+-- failure.
 use mathlib.Core.Path.{_≡_, refl, sym, ap, _∙_, subst}
 use mathlib.Core.Bool.{true}
 use mathlib.Core.Option.{Option}

@@ -23,7 +23,8 @@ use Rattle.items.specs.declared.NextAnswer.{NextAnswer}
 use Rattle.items.specs.declared.NextAnswer.the-variants.{Met, Unmet}
 
 -- p, run on the region s and the script from step t, comes to r and leaves the good image b
-pub record Runs {A : Type 0} (p : Prog Bytes A) (s script : Bytes) (t : Step) (b : Bytes) (r : Result (World Bytes) A) : Type 0 where
+pub record Runs {A : Type 0} (p : Prog Bytes A) (s script : Bytes) (t : Step) (b : Bytes)
+    (r : Result (World Bytes) A) : Type 0 where
   pub fine : good b ≡ true
   pub is : r ≡ exec p (world s script t)
 

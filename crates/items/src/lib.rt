@@ -56,7 +56,8 @@ fn keeping(space: Space, step: Step) -> Step
 pub fn store(region: &mut [u8], script: &[u8], key: &[u8], value: &[u8], step: Step) -> ItemAnswer
     requires { ⌜ good (now region) ≡ true ⌝ }
     requires { ⌜ allowed (length (now key)) (length (now value)) ≡ true ⌝ }
-    ensures { λ r. ⌜ Ran (Program.store flat (item (now (key .entry)) (now (value .entry)))) (now (region .entry)) (now (script .entry)) step (now (region .exit)) r ⌝ }
+    ensures { λ r. ⌜ Ran (Program.store flat (item (now (key .entry)) (now (value .entry)))) (now (region .entry))
+        (now (script .entry)) step (now (region .exit)) r ⌝ }
 {
     let next = script::stepped(script, step);
     let verdict = script::fate(script, step);
@@ -100,7 +101,8 @@ fn answered(verdict: Verdict, step: Step) -> ItemAnswer
 // Removes the item with a key; an absent key is a success.
 pub fn remove(region: &mut [u8], script: &[u8], key: &[u8], step: Step) -> ItemAnswer
     requires { ⌜ good (now region) ≡ true ⌝ }
-    ensures { λ r. ⌜ Ran (Program.remove flat (now (key .entry))) (now (region .entry)) (now (script .entry)) step (now (region .exit)) r ⌝ }
+    ensures { λ r. ⌜ Ran (Program.remove flat (now (key .entry))) (now (region .entry)) (now (script .entry)) step
+        (now (region .exit)) r ⌝ }
 {
     let next = script::stepped(script, step);
     let verdict = script::fate(script, step);
@@ -122,7 +124,8 @@ pub fn remove_counted(
 ) -> ItemAnswer
     requires { ⌜ good (now region) ≡ true ⌝ }
     requires { ⌜ held ≡ spaceOf (now region) ⌝ }
-    ensures { λ r. ⌜ Ran (Program.remove flat (now (key .entry))) (now (region .entry)) (now (script .entry)) step (now (region .exit)) r ⌝ }
+    ensures { λ r. ⌜ Ran (Program.remove flat (now (key .entry))) (now (region .entry)) (now (script .entry)) step
+        (now (region .exit)) r ⌝ }
 {
     let next = script::stepped(script, step);
     let verdict = script::fate(script, step);
@@ -159,7 +162,8 @@ pub fn fetch(region: &[u8], script: &[u8], key: &[u8], step: Step) -> FetchAnswe
 // Opens an iteration, which then goes from place 0.
 pub fn iterate_open(region: &[u8], script: &[u8], step: Step) -> ItemAnswer
     requires { ⌜ good (now region) ≡ true ⌝ }
-    ensures { λ r. ⌜ Ran (Program.step flat) (now (region .entry)) (now (script .entry)) step (now (region .entry)) r ⌝ }
+    ensures { λ r. ⌜ Ran (Program.step flat) (now (region .entry)) (now (script .entry)) step (now (region .entry)) r
+        ⌝ }
 {
     let next = script::stepped(script, step);
     let verdict = script::fate(script, step);

@@ -1,5 +1,5 @@
-// A batch's journal: the entry and the landing of one operation, the marker that commits, and what follows a fault from then on. Document 01
-// defines them in "Calls", under batch. What a batch's operations are read from is no matter here.
+// A batch's journal: the entry of one operation, the marker that commits, and what follows a fault from then on.
+// Document 01 defines them in "Calls", under batch. What a batch's operations are read from is no matter here.
 use codec::OpKind;
 use definition::Answer;
 use definition::CodecAnswer;
@@ -41,7 +41,8 @@ pub fn write_entry(
 ) -> ItemAnswer
     requires { ⌜ good (now region) ≡ true ⌝ }
     requires { ⌜ opFault (opAs kind (now key) (now value)) ≡ none ⌝ }
-    ensures { λ r. ⌜ Ran (store flat (item (journalKey index) (encode (opAs kind (now (key .entry)) (now (value .entry)))))) (now (region .entry)) (now (script .entry)) step (now (region .exit)) r ⌝ }
+    ensures { λ r. ⌜ Ran (store flat (item (journalKey index) (encode (opAs kind (now (key .entry))
+        (now (value .entry)))))) (now (region .entry)) (now (script .entry)) step (now (region .exit)) r ⌝ }
 {
     let mut entry = [0u8; JOURNAL_ENTRY_MAX];
     let encoded = codec::encode_op(kind, key, value, &mut entry);
@@ -57,7 +58,8 @@ pub fn write_entry(
 
 pub fn write_marker(region: &mut [u8], script: &[u8], count: u16, step: Step) -> ItemAnswer
     requires { ⌜ good (now region) ≡ true ⌝ }
-    ensures { λ r. ⌜ Ran (store flat (item markerKey (Codec.marker count))) (now (region .entry)) (now (script .entry)) step (now (region .exit)) r ⌝ }
+    ensures { λ r. ⌜ Ran (store flat (item markerKey (Codec.marker count))) (now (region .entry))
+        (now (script .entry)) step (now (region .exit)) r ⌝ }
 {
     let marker_key = codec::marker_key();
     let marker = codec::encode_marker(count);
@@ -66,7 +68,8 @@ pub fn write_marker(region: &mut [u8], script: &[u8], count: u16, step: Step) ->
 
 pub fn remove_marker(region: &mut [u8], script: &[u8], step: Step) -> ItemAnswer
     requires { ⌜ good (now region) ≡ true ⌝ }
-    ensures { λ r. ⌜ Ran (remove flat markerKey) (now (region .entry)) (now (script .entry)) step (now (region .exit)) r ⌝ }
+    ensures { λ r. ⌜ Ran (remove flat markerKey) (now (region .entry)) (now (script .entry)) step (now (region .exit))
+        r ⌝ }
 {
     let marker_key = codec::marker_key();
     items::remove(region, script, &marker_key, step)
@@ -99,7 +102,8 @@ fn settled(fault: Fault) -> Fault
 // Finishes a batch that is committed by recovery.
 pub fn finish(region: &mut [u8], script: &[u8], step: Step) -> Reply
     requires { ⌜ good (now region) ≡ true ⌝ }
-    ensures { λ r. ⌜ Says (Calls.finish flat) (now (region .entry)) (now (script .entry)) step (now (region .exit)) (r .answer) (r .state) (r .calls) [] ⌝ }
+    ensures { λ r. ⌜ Says (Calls.finish flat) (now (region .entry)) (now (script .entry)) step (now (region .exit))
+        (r .answer) (r .state) (r .calls) [] ⌝ }
 {
     let recovered = recovery::recover(region, script, step);
     let ItemAnswer::Done(next) = recovered else {
@@ -111,10 +115,13 @@ pub fn finish(region: &mut [u8], script: &[u8], step: Step) -> Reply
     gate::reply(Answer::Ok, Health::Clean, next)
 }
 
-// After a fault in the marker's write: only what stands there says whether the batch is committed.
+// After a fault in the marker's write: only what stands there says whether the batch is committed. A store that once
+// took the failed write for a rollback told its caller "failed", and the next mount landed the batch: so the marker
+// is read back, and where that fails too, nobody knows.
 pub fn read_back(region: &mut [u8], script: &[u8], count: u16, fault: Fault, step: Step) -> Reply
     requires { ⌜ good (now region) ≡ true ⌝ }
-    ensures { λ r. ⌜ Says (readBack flat count fault) (now (region .entry)) (now (script .entry)) step (now (region .exit)) (r .answer) (r .state) (r .calls) [] ⌝ }
+    ensures { λ r. ⌜ Says (readBack flat count fault) (now (region .entry)) (now (script .entry)) step
+        (now (region .exit)) (r .answer) (r .state) (r .calls) [] ⌝ }
 {
     let marker_key = codec::marker_key();
     let fetched = items::fetch(region, script, &marker_key, step);

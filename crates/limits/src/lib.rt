@@ -1,5 +1,5 @@
-// What a call refuses by a look at its arguments, and whether a put is tried again: the tests of document 01's "Calls" that read no region. Apart from
-// the calls, so that a limit is proved, and a wrong one refused, by itself.
+// What a call refuses by a look at its arguments, and whether a put is tried again: the tests of document 01's
+// "Calls" that read no region. Apart from the calls, so that a limit is proved, and a wrong one refused, by itself.
 use codec::Checked;
 use codec::Key;
 use definition::ADDRESS_END;
@@ -18,7 +18,8 @@ ghost use Rattle.limits.specs.Forms.{retried};
 
 // The tests of a put, in their order: the value's length, the reserved byte, the key's length.
 pub fn check_put(key: &[u8], value: &[u8]) -> Checked
-    ensures { λ r. ⌜ Checks (putFault (now (key .entry)) (now (value .entry))) (now (key .entry)) (now (value .entry)) r ⌝ }
+    ensures { λ r. ⌜ Checks (putFault (now (key .entry)) (now (value .entry))) (now (key .entry)) (now (value .entry))
+        r ⌝ }
 {
     if MAX_VALUE_LEN < value.len() {
         return Checked::Refused(Fault::CapacityExceeded(

@@ -1,5 +1,5 @@
-// The public scan: document 01, "Calls", scan. It requires nothing, and is equal to its definition in `definition/specs/Public`: answer, state, item
-// calls and every lent byte.
+// The public scan: document 01, "Calls", scan. It requires nothing, and is equal to its definition in
+// `definition/specs/Public`: answer, state, item calls and every lent byte.
 use definition::Fault;
 use definition::Health;
 use definition::ScanEnd;
@@ -47,7 +47,12 @@ fn refused_of(failed: Failure, health: Health) -> ScanReply
     reply_of(listing, health)
 }
 
-// Lists the records under a prefix in rising key order, at most `most` of them, as records at the front of `out`.
+// Lists the records under a prefix in rising key order, at most `most` of them, as records at the front of `out`, and
+// says whether these were all (Finished), as many as asked for (Stopped), or all that had room (NoRoom). Refusals, in
+// order: 7 for a bad image, with nothing changed and no item call; a recovery's fault, if the store was Pending; a
+// pass's fault, or 2 for a value over 256 bytes: the records of earlier passes then stand and are counted. Bytes
+// beyond the records stay as they were. On the console: `scan -` says `scan finished 1 3 clean`, and an `item` line
+// for each record.
 pub fn scan_prefix(
     region: &mut [u8],
     script: &[u8],
@@ -56,7 +61,9 @@ pub fn scan_prefix(
     most: usize,
     out: &mut [u8],
 ) -> ScanReply
-    ensures { λ r. ⌜ outcome (r .answer) (r .state) (r .calls) (now (region .exit)) (now (out .exit)) ≡ Public.scanPrefix (now (region .entry)) (now (script .entry)) state (now (prefix .entry)) most (now (out .entry)) ⌝ }
+    ensures { λ r. ⌜ outcome (r .answer) (r .state) (r .calls) (now (region .exit)) (now (out .exit))
+        ≡ Public.scanPrefix (now (region .entry)) (now (script .entry)) state (now (prefix .entry)) most
+        (now (out .entry)) ⌝ }
 {
     if !region::is_good(region) {
         return ScanReply {

@@ -1,5 +1,6 @@
-// The bookkeeping keys and the marker: document 01, "Codecs", and of "Recovery and health" the test of a marker's count. Every function takes any
-// input and equals its definition in `definition/specs/Codec` and `Recovery`; `codec` passes the codecs on.
+// The bookkeeping keys and the marker: document 01, "Codecs", and of "Recovery and health" the test of a marker's
+// count. Every function takes any input and equals its definition in `definition/specs/Codec` and `Recovery`; `codec`
+// passes the codecs on.
 use definition::JOURNAL_ITEM_MIN_BYTES;
 use definition::JOURNAL_TAG;
 use definition::MARKER_TAG;
@@ -81,7 +82,8 @@ pub fn decode_marker(bytes: &[u8]) -> Marker
     Marker::Count(count)
 }
 
-// Whether a marker's count cannot be a batch's: the erased pattern, or more entries than the region could hold.
+// Whether a marker's count cannot be a batch's: the erased pattern, which is the likeliest garbage and which no batch
+// therefore has, or more entries than the region could hold, each of which a mount would look for in vain.
 pub fn too_many(len: usize, count: usize) -> bool
     ensures { λ r. ⌜ r ≡ tooMany len count ⌝ }
 {

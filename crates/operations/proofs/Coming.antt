@@ -1,4 +1,5 @@
--- What is left to run, along the calls: from a program to what follows its success or its failure, and from there to an answer.
+-- What is left to run, along the calls: from a program to what follows its success or its failure, and from there to
+-- an answer.
 use mathlib.Core.Path.{_≡_, refl, sym, ap, _∙_, subst}
 use mathlib.Core.Bool.{Bool, true, false, not}
 use mathlib.Core.List.{List, [], _∷_}

@@ -1,4 +1,5 @@
--- Where a batch of operation structs stands between two turns, and what a turn keeps: the run that is left equals the whole run.
+-- Where a batch of operation structs stands between two turns, and what a turn keeps: the run that is left equals the
+-- whole run.
 use mathlib.Core.Path.{_≡_}
 use mathlib.Core.Bool.{true, not}
 use mathlib.Core.List.{List, []}
@@ -123,9 +124,12 @@ module _ (r : Run) (ops : List BatchOp) (pool script b : Bytes) where
 
 -- ---- behind a pass
 
--- so many operations passed their tests, and p of them is left to run on s from step t: the work w on the region b goes on with it
-pub record Behind (p : List Op → Prog Bytes (Said Answer)) (most count : ℕ) (s script : Bytes) (t : Step) (b : Bytes) (w : Work) : Type 0 where
-  pub keeps : (r : Run) (ops : List BatchOp) (pool : Bytes) → count ≡ length ops → Passed ops pool → Comes r (p (opsNamed pool ops)) s script t
+-- so many operations passed their tests, and p of them is left to run on s from step t: the work w on the region b
+-- goes on with it
+pub record Behind (p : List Op → Prog Bytes (Said Answer)) (most count : ℕ) (s script : Bytes) (t : Step) (b : Bytes)
+    (w : Work) : Type 0 where
+  pub keeps : (r : Run) (ops : List BatchOp) (pool : Bytes) → count ≡ length ops → Passed ops pool
+      → Comes r (p (opsNamed pool ops)) s script t
       → Stands r ops pool script b w
   pub fewer : turns w ≤ most
 
@@ -153,10 +157,11 @@ pub record Turn (o : BatchOp) (pool s : Bytes) (w : Work) : Type 0 where
   pub less : w .next < w .count
   pub fit : Fit (w .pass) o pool w
 
--- the turn of the operation o took the region s and the work w to b and w1: of any list that o stands in at this place, what is left comes to the
--- same, and fewer turns are left
+-- the turn of the operation o took the region s and the work w to b and w1: of any list that o stands in at this
+-- place, what is left comes to the same, and fewer turns are left
 pub record Turned (o : BatchOp) (pool script s : Bytes) (w : Work) (b : Bytes) (w1 : Work) : Type 0 where
-  pub keeps : (r : Run) (ops : List BatchOp) → opAt ops (w .next) ≡ o → Stands r ops pool script s w → Stands r ops pool script b w1
+  pub keeps : (r : Run) (ops : List BatchOp) → opAt ops (w .next) ≡ o → Stands r ops pool script s w
+      → Stands r ops pool script b w1
   pub fewer : turns w1 < turns w
 
 -- the same of a turn that looks at neither region nor script
@@ -167,4 +172,5 @@ pub record Looked (o : BatchOp) (pool : Bytes) (w w1 : Work) : Type 0 where
 
 -- a call on the region s begun with this state and so many operations, which leaves the region b and the work w
 pub record Begun (s : Bytes) (st : State) (count : ℕ) (b : Bytes) (w : Work) : Type 0 where
-  pub keeps : (script : Bytes) (ops : List BatchOp) (pool : Bytes) → count ≡ length ops → Stands (whole s script st ops pool) ops pool script b w
+  pub keeps : (script : Bytes) (ops : List BatchOp) (pool : Bytes) → count ≡ length ops
+      → Stands (whole s script st ops pool) ops pool script b w

@@ -1,6 +1,7 @@
-// apply_ops: a batch given as a lent list of operation structs that name parts of one byte pool. Document 01 has it in "Shapes that must change";
-// what it answers is the batch of "Calls". The entry goes over the list four times and does nothing but hand each operation to `one`: the pass that
-// it stands in says what is done with it, and the last of a pass does what comes behind the pass.
+// apply_ops: a batch given as a lent list of operation structs that name parts of one byte pool. Document 01 has it
+// in "Shapes that must change"; what it answers is the batch of "Calls". The entry goes over the list four times and
+// does nothing but hand each operation to `one`: the pass that it stands in says what is done with it, and the last
+// of a pass does what comes behind the pass.
 use codec::Checked;
 use definition::Answer;
 use definition::BATCH_MAX;
@@ -35,7 +36,8 @@ pub enum Pass {
     Over,
 }
 
-// What is kept from operation to operation: the pass, the place of the next operation among so many, and what the call's reply is made of.
+// What is kept from operation to operation: the pass, the place of the next operation among so many, and what the
+// call's reply is made of.
 pub struct Work {
     pub pass: Pass,
     pub next: usize,
@@ -132,7 +134,8 @@ fn shape(op: BatchOp, pool: &[u8], work: Work) -> Work
 fn recover(region: &mut [u8], script: &[u8], count: usize, health: Health, step: Step) -> Work
     requires { ⌜ good (now region) ≡ true ⌝ }
     requires { ⌜ 0 < count ⌝ }
-    ensures { λ r. ⌜ Behind (guarded health) (2 * count) count (now (region .entry)) (now (script .entry)) step (now (region .exit)) r ⌝ }
+    ensures { λ r. ⌜ Behind (guarded health) (2 * count) count (now (region .entry)) (now (script .entry)) step
+        (now (region .exit)) r ⌝ }
 {
     let needed = gate::is_unclean(health);
     let converged = gate::converge(region, script, needed, health, step);
@@ -146,7 +149,8 @@ fn recover(region: &mut [u8], script: &[u8], count: usize, health: Health, step:
 fn test(op: BatchOp, pool: &[u8], region: &mut [u8], script: &[u8], work: Work) -> Work
     requires { ⌜ Turn op (now pool) (now region) work ⌝ }
     requires { ⌜ work .pass ≡ Pass.Tests ⌝ }
-    ensures { λ r. ⌜ Turned op (now (pool .entry)) (now (script .entry)) (now (region .entry)) work (now (region .exit)) r ⌝ }
+    ensures { λ r. ⌜ Turned op (now (pool .entry)) (now (script .entry)) (now (region .entry)) work
+        (now (region .exit)) r ⌝ }
 {
     let count = work.count;
     let health = work.health;
@@ -168,7 +172,8 @@ fn commit(region: &mut [u8], script: &[u8], count: usize, health: Health, step: 
     requires { ⌜ good (now region) ≡ true ⌝ }
     requires { ⌜ 0 < count ⌝ }
     requires { ⌜ count ≤ batchLimit ⌝ }
-    ensures { λ r. ⌜ Behind (Calls.commit flat) count count (now (region .entry)) (now (script .entry)) step (now (region .exit)) r ⌝ }
+    ensures { λ r. ⌜ Behind (Calls.commit flat) count count (now (region .entry)) (now (script .entry)) step
+        (now (region .exit)) r ⌝ }
 {
     let marked = journal::write_marker(region, script, count as u16, step);
     let ItemAnswer::Done(next) = marked else {
@@ -181,11 +186,13 @@ fn commit(region: &mut [u8], script: &[u8], count: usize, health: Health, step: 
     turn(Pass::Land, 0, count, health, next)
 }
 
-// Stores an operation's entry; behind the last the marker. Before the marker a fault leaves only what a later recovery drops.
+// Stores an operation's entry; behind the last the marker. Before the marker a fault leaves only what a later
+// recovery drops.
 fn enter(op: BatchOp, pool: &[u8], region: &mut [u8], script: &[u8], work: Work) -> Work
     requires { ⌜ Turn op (now pool) (now region) work ⌝ }
     requires { ⌜ work .pass ≡ Pass.Journal ⌝ }
-    ensures { λ r. ⌜ Turned op (now (pool .entry)) (now (script .entry)) (now (region .entry)) work (now (region .exit)) r ⌝ }
+    ensures { λ r. ⌜ Turned op (now (pool .entry)) (now (script .entry)) (now (region .entry)) work
+        (now (region .exit)) r ⌝ }
 {
     let count = work.count;
     let health = work.health;
@@ -207,7 +214,8 @@ fn enter(op: BatchOp, pool: &[u8], region: &mut [u8], script: &[u8], work: Work)
 // Leaves a committed batch to recovery.
 fn finish(region: &mut [u8], script: &[u8], count: usize, answer: ItemAnswer) -> Work
     requires { ⌜ good (now region) ≡ true ⌝ }
-    ensures { λ r. ⌜ Behind (λ ops. Calls.finish flat) 0 count (now (region .entry)) (now (script .entry)) (failureOf answer .step) (now (region .exit)) r ⌝ }
+    ensures { λ r. ⌜ Behind (λ ops. Calls.finish flat) 0 count (now (region .entry)) (now (script .entry))
+        (failureOf answer .step) (now (region .exit)) r ⌝ }
 {
     let failed = items::why(answer);
     let stopped = failed.step;
@@ -230,7 +238,8 @@ fn close(region: &mut [u8], script: &[u8], count: usize, step: Step) -> Work
 fn land(op: BatchOp, pool: &[u8], region: &mut [u8], script: &[u8], work: Work) -> Work
     requires { ⌜ Turn op (now pool) (now region) work ⌝ }
     requires { ⌜ work .pass ≡ Pass.Land ⌝ }
-    ensures { λ r. ⌜ Turned op (now (pool .entry)) (now (script .entry)) (now (region .entry)) work (now (region .exit)) r ⌝ }
+    ensures { λ r. ⌜ Turned op (now (pool .entry)) (now (script .entry)) (now (region .entry)) work
+        (now (region .exit)) r ⌝ }
 {
     let count = work.count;
     let health = work.health;
@@ -252,7 +261,8 @@ fn land(op: BatchOp, pool: &[u8], region: &mut [u8], script: &[u8], work: Work) 
 // One operation's turn.
 fn one(op: BatchOp, pool: &[u8], region: &mut [u8], script: &[u8], work: Work) -> Work
     requires { ⌜ Turn op (now pool) (now region) work ⌝ }
-    ensures { λ r. ⌜ Turned op (now (pool .entry)) (now (script .entry)) (now (region .entry)) work (now (region .exit)) r ⌝ }
+    ensures { λ r. ⌜ Turned op (now (pool .entry)) (now (script .entry)) (now (region .entry)) work
+        (now (region .exit)) r ⌝ }
 {
     let pass = work.pass;
     match pass {
@@ -273,6 +283,8 @@ fn reply(work: Work) -> Reply
     gate::reply(answer, health, step)
 }
 
+// Does the operations of a list of structs, all or none: refusals and what stands after each are those of
+// `batch::apply_batch`, with 17 for a part outside the pool, another kind, or a delete with a value.
 pub fn apply_ops(
     region: &mut [u8],
     script: &[u8],
@@ -280,7 +292,8 @@ pub fn apply_ops(
     ops: &[BatchOp],
     pool: &[u8],
 ) -> Reply
-    ensures { λ r. ⌜ outcome (r .answer) (r .state) (r .calls) (now (region .exit)) [] ≡ applyOps (now (region .entry)) (now (script .entry)) state (now (ops .entry)) (now (pool .entry)) ⌝ }
+    ensures { λ r. ⌜ outcome (r .answer) (r .state) (r .calls) (now (region .exit)) []
+        ≡ applyOps (now (region .entry)) (now (script .entry)) state (now (ops .entry)) (now (pool .entry)) ⌝ }
 {
     let mut work = begin(region, state, ops.len());
     while work.next < ops.len() {

@@ -1,4 +1,5 @@
--- A walk over an operation list: what a visit of a place makes of the operations that are left, and what the whole list's shape says of them.
+-- A walk over an operation list: what a visit of a place makes of the operations that are left, and what the whole
+-- list's shape says of them.
 use mathlib.Core.Path.{_≡_, refl, sym, ap, _∙_, subst}
 use mathlib.Core.List.{List, [], _∷_}
 use mathlib.Core.Option.{Option, none, some, Option·map}

@@ -1,5 +1,5 @@
--- Places in an operation list: what stands there, and the operations that are left from there on. Document 01's list is reached through them, so
--- that a caller needs no byte of a record.
+-- Places in an operation list: what stands there, and the operations that are left from there on. Document 01's list
+-- is reached through them, so that a caller needs no byte of a record.
 use mathlib.Core.Path.{_≡_}
 use mathlib.Core.List.{List, []}
 use mathlib.Core.Option.{Option, none, some}

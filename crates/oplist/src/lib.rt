@@ -1,6 +1,6 @@
-// A batch's operation list, read where it is lent. Document 01 defines it in its last lines of "Calls": records as the region's, kind 1 put,
-// kind 2 delete with no value, ending exactly. Nothing above this crate knows a byte of a list; an operation's parts are `region::key_at` and
-// `region::value_at`.
+// A batch's operation list, read where it is lent. Document 01 defines it in its last lines of "Calls": records as
+// the region's, kind 1 put, kind 2 delete with no value, ending exactly. Nothing above this crate knows a byte of a
+// list; an operation's parts are `region::key_at` and `region::value_at`.
 use codec::OpKind;
 use definition::DELETE_KIND;
 use definition::HEAD_SIZE;

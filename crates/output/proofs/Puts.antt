@@ -56,7 +56,8 @@ module _ {made : Waiting} (w : Waiting) (s : Bytes) {i : ℕ} where
 
 -- ---- a number's digits
 
--- two digits or more are the fewest only of a number from 10 on, and then those above the last are the fewest of the tenth
+-- two digits or more are the fewest only of a number from 10 on, and then those above the last are the fewest of the
+-- tenth
 module _ (k n : ℕ) (f : Fewest 10 1 n (suc (suc k))) where
   above : 10 ^ suc k ≤ n
   above = rw sub-one at (f .2 (omega arith))

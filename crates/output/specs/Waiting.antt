@@ -16,7 +16,8 @@ waits buffer used = record { buffer = buffer; used = used }
 
 -- what waits after one byte more: it stands behind the others, or nothing waits
 unfoldable pub addByte : Waiting → ℕ → Waiting
-addByte w b = pick (ltb (w .used) (length (w .buffer))) (waits (set (w .buffer) (w .used) b) (w .used + 1)) (waits (w .buffer) 0)
+addByte w b =
+    pick (ltb (w .used) (length (w .buffer))) (waits (set (w .buffer) (w .used) b) (w .used + 1)) (waits (w .buffer) 0)
 
 -- the same for each byte in turn
 unfoldable pub addBytes : Waiting → Bytes → Waiting

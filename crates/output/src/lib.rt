@@ -6,7 +6,8 @@ ghost use Rattle.io.specs.Digits.{digits};
 ghost use Rattle.io.specs.Digits.{glyph as Digits·glyph};
 ghost use Rattle.output.specs.Waiting.{waits, addByte, addBytes, decimalOf, hexOf};
 
-// Writes the bytes that wait, and hands back how many wait then. Nothing is left to do where a write fails, so its answer is dropped.
+// Writes the bytes that wait, and hands back how many wait then. Nothing is left to do where a write fails, so its
+// answer is dropped.
 pub fn flush(out: &[u8], used: usize) -> usize
     ensures { λ r. ⌜ r ≡ 0 ⌝ }
 {
@@ -16,7 +17,8 @@ pub fn flush(out: &[u8], used: usize) -> usize
     0
 }
 
-// Puts a byte behind the `used` that wait in `out`, and hands back how many wait then. Where there is no room all are written, and none waits.
+// Puts a byte behind the `used` that wait in `out`, and hands back how many wait then. Where there is no room all are
+// written, and none waits.
 pub fn put_byte(out: &mut [u8], used: usize, byte: u8) -> usize
     ensures { λ r. ⌜ waits (now (out .exit)) r ≡ addByte (waits (now (out .entry)) used) byte ⌝ }
 {
@@ -68,7 +70,8 @@ fn spelled(byte: u8) -> [u8; 2]
 
 // Puts bytes in hex.
 pub fn put_hex(out: &mut [u8], used: usize, bytes: &[u8]) -> usize
-    ensures { λ r. ⌜ waits (now (out .exit)) r ≡ addBytes (waits (now (out .entry)) used) (hexOf (now (bytes .entry))) ⌝ }
+    ensures { λ r. ⌜ waits (now (out .exit)) r ≡ addBytes (waits (now (out .entry)) used) (hexOf (now (bytes .entry)))
+        ⌝ }
 {
     let mut used = used;
     let mut i: usize = 0;

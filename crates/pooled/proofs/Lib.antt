@@ -1,2 +1,3 @@
--- Laws in the shape of the code: what a function's proof cites at each of its returns, and what a caller has of an operation struct.
+-- Laws in the shape of the code: what a function's proof cites at each of its returns, and what a caller has of an
+-- operation struct.
 pub mod Naming

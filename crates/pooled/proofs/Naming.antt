@@ -1,5 +1,5 @@
--- What the tests of an operation struct say, and the operation that it names by the parts that the code hands on; and that tests and parts together
--- are the definition's list.
+-- What the tests of an operation struct say, and the operation that it names by the parts that the code hands on; and
+-- that tests and parts together are the definition's list.
 use mathlib.Core.Path.{_≡_, refl, sym, ap, ap₂, _∙_}
 use mathlib.Core.Bool.{Bool, true, false}
 use mathlib.Core.List.{List, [], _∷_}

@@ -1,4 +1,5 @@
--- Operation structs as the code takes them: first tested, then read. `pooled/proofs/Naming` has that this is the definition's list.
+-- Operation structs as the code takes them: first tested, then read. `pooled/proofs/Naming` has that this is the
+-- definition's list.
 use mathlib.Core.Bool.{Bool, true, false}
 use mathlib.Core.List.{List, [], _∷_}
 use Prim.Native.Nat.{ℕ, _+_}
@@ -21,7 +22,8 @@ isKind o = pick (eqb (o .kind) putKind) true (pick (eqb (o .kind) deleteKind) (e
 
 unfoldable pub isOp : Bytes → BatchOp → Bool
 isOp pool o =
-    pick (inside pool (o .«key_at») (o .«key_len»)) (pick (inside pool (o .«value_at») (o .«value_len»)) (isKind o) false) false
+    pick (inside pool (o .«key_at») (o .«key_len»))
+    (pick (inside pool (o .«value_at») (o .«value_len»)) (isKind o) false) false
 
 unfoldable pub areOps : Bytes → List BatchOp → Bool
 areOps pool [] = true
@@ -37,7 +39,8 @@ partAt pool at len = take len (drop at pool)
 
 unfoldable pub opNamed : Bytes → BatchOp → Op
 opNamed pool o =
-    pick (eqb (o .kind) putKind) (Put (partAt pool (o .«key_at») (o .«key_len»)) (partAt pool (o .«value_at») (o .«value_len»)))
+    pick (eqb (o .kind) putKind)
+    (Put (partAt pool (o .«key_at») (o .«key_len»)) (partAt pool (o .«value_at») (o .«value_len»)))
     (Delete (partAt pool (o .«key_at») (o .«key_len»)))
 
 unfoldable pub opsNamed : Bytes → List BatchOp → List Op

@@ -1,5 +1,6 @@
-// Operation structs over a lent byte pool. Document 01 has them in "Shapes that must change": a struct names its key and its value as parts of one
-// pool, and a part outside it, or another kind, is no operation. Nothing above this crate knows how a struct names a part.
+// Operation structs over a lent byte pool. Document 01 has them in "Shapes that must change": a struct names its key
+// and its value as parts of one pool, and a part outside it, or another kind, is no operation. Nothing above this
+// crate knows how a struct names a part.
 use codec::OpKind;
 use definition::BatchOp;
 use definition::DELETE_KIND;

@@ -1,5 +1,5 @@
-// Runs item-level cases. Each line is a region, a script, a look at the region or an item call; the answers are lines too. Bytes stand in hex,
-// and `-` stands for none.
+// Runs item-level cases. Each line is a region, a script, a look at the region or an item call; the answers are lines
+// too. Bytes stand in hex, and `-` stands for none.
 use definition::Space;
 use definition::Step;
 use items::FetchAnswer;
@@ -85,7 +85,8 @@ impl Run {
     }
 }
 
-// Where a case's item calls start. What its region holds is asked of the region; the numbers kept are not looked at here.
+// Where a case's item calls start. What its region holds is asked of the region; the numbers kept are not looked at
+// here.
 fn first_step() -> Step {
     let space = Space {
         used: 0,

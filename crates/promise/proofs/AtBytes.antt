@@ -1,4 +1,5 @@
--- What the definition's proofs show of any map, at document 01's map, the region's bytes; and the step from an item program to a public call.
+-- What the definition's proofs show of any map, at document 01's map, the region's bytes; and the step from an item
+-- program to a public call.
 use mathlib.Core.Path.{_≡_}
 use mathlib.Core.Bool.{true}
 use mathlib.Core.Option.{Option, none, some}

@@ -1,4 +1,5 @@
--- The promise speaks of something: a run with a lying store, an uncertain commit, a power cut and a remount, computed from the definition.
+-- The promise speaks of something: a run with a lying store, an uncertain commit, a power cut and a remount, computed
+-- from the definition.
 use mathlib.Core.Path.{_≡_, refl, ap}
 use mathlib.Core.Bool.{Bool, true, false}
 use mathlib.Core.List.{List, [], _∷_}

@@ -1,4 +1,5 @@
--- Which faults a call can be refused with: a script brings item faults only, and every refusal but 15 and 16 means no change.
+-- Which faults a call can be refused with: a script brings item faults only, and every refusal but 15 and 16 means no
+-- change.
 use mathlib.Core.Path.{_≡_, refl, ap, _∙_, subst}
 use mathlib.Core.Logic.{_≢_}
 use mathlib.Core.Bool.{Bool, true, false, not}

@@ -1,4 +1,5 @@
--- Every call on a region that stands for a plain map is answered as the map may answer it, and leaves a region that stands for the map after it.
+-- Every call on a region that stands for a plain map is answered as the map may answer it, and leaves a region that
+-- stands for the map after it.
 use mathlib.Core.Path.{_≡_, refl, sym, ap, _∙_, subst}
 use mathlib.Core.Bool.{true}
 use mathlib.Core.List.{List, [], _∷_}
@@ -93,7 +94,8 @@ runs : {X : Type 0} {Q : Said X → Bytes → Type 0} {p : Prog Bytes (Said X)} 
 runs region script st e = exec-ensures ItemFault (λ s t. Unit {0}) any-script (λ s t n u. tt) e (world region script (begin st)) tt refl
 
 module _ (len : ℕ) where
-  -- what a call comes to: a step of the plain map, what its output shows of it, and a region that stands for the map after it
+  -- what a call comes to: a step of the plain map, what its output shows of it, and a region that stands for the map
+  -- after it
   record Done (A : Plain) (c : Call) (h : Heard) (health : Health) (region : Bytes) : Type 0 where
     after : Plain
     step : P.Step A c h after

@@ -1,5 +1,5 @@
--- The promise's last sentence: once faults stop, the first contains on a mounted store answers or reports 6, and so does a mount. It follows from
--- what the calls ensure, with no fault left that a script may bring.
+-- The promise's last sentence: once faults stop, the first contains on a mounted store answers or reports 6, and so
+-- does a mount. It follows from what the calls ensure, with no fault left that a script may bring.
 use mathlib.Core.Path.{_≡_, refl, sym, _∙_, subst}
 use mathlib.Core.Bool.{false}
 use mathlib.Core.List.{[]}

@@ -1,4 +1,5 @@
--- The promise's words on scans say what they should: a map has one list under a prefix, and what `FirstOf` allows are the first records of it.
+-- The promise's words on scans say what they should: a map has one list under a prefix, and what `FirstOf` allows are
+-- the first records of it.
 use mathlib.Core.Path.{_≡_, refl, sym, ap, _∙_, subst}
 use mathlib.Core.Logic.{_≢_}
 use mathlib.Core.Bool.{true, false}

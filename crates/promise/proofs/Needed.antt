@@ -38,9 +38,9 @@ on is = spaceOf (image is)
 abbrev markerOf : Bytes → Item
 markerOf v = item (0 ∷ 0x63 ∷ []) v
 
--- ---- The region is lent whole. A batch of two deletes is done but for its marker (15). Lent 16 bytes of the 8192, contains says 13: the marker
--- counts more operations than a region of 16 bytes can journal. (So it is with a mount: 16384 bytes, a batch of 600 deletes cut after 1,401
--- calls, then 8192 bytes. That is too long to compute here.)
+-- ---- The region is lent whole. A batch of two deletes is done but for its marker (15). Lent 16 bytes of the 8192,
+-- contains says 13: the marker counts more operations than a region of 16 bytes can journal. (So it is with a mount:
+-- 16384 bytes, a batch of 600 deletes cut after 1,401 calls, then 8192 bytes. That is too long to compute here.)
 
 abbrev two : Item
 two = markerOf (0 ∷ 2 ∷ 0xff ∷ 0xfd ∷ [])
@@ -65,8 +65,8 @@ shorter : Public.contains (render 16 (two ∷ [])) late (state Pending 9 false (
 unfolding computes
 shorter = refl
 
--- ---- Each call is given the newest state. A batch is answered 16; with the state from before it a get finds the old value, and after a mount the
--- new one.
+-- ---- Each call is given the newest state. A batch is answered 16; with the state from before it a get finds the old
+-- value, and after a mount the new one.
 
 abbrev list : Bytes
 list = 0x0b ∷ 0 ∷ 0 ∷ 0 ∷ 1 ∷ 0 ∷ 1 ∷ 0 ∷ 1 ∷ 0x61 ∷ 0x33 ∷ []
@@ -145,8 +145,9 @@ foreign-marker : Public.mount (image foreign) [] 0 0 ≡ outcome (Refused (Journ
 unfolding computes
 foreign-marker = refl
 
--- ---- The last sentence says "or reports 6", and must: with 8160 of 8192 bytes used, the journal of a put and its marker take the last 32. The batch
--- is in (15), and until something else makes room every recovery ends in 6, with no fault of a script.
+-- ---- The last sentence says "or reports 6", and must: with 8160 of 8192 bytes used, the journal of a put and its
+-- marker take the last 32. The batch is in (15), and until something else makes room every recovery ends in 6, with
+-- no fault of a script.
 
 abbrev big : ℕ → Item
 big n = item (n ∷ []) (replicate 480 7)

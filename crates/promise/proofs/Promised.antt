@@ -1,5 +1,5 @@
--- The promise, proved: from a region with no bookkeeping items every run is answered as a plain map answers, with outputs that show it; the region
--- keeps its length; and 13 is never answered.
+-- The promise, proved: from a region with no bookkeeping items every run is answered as a plain map answers, with
+-- outputs that show it; the region keeps its length; and 13 is never answered.
 use mathlib.Core.Path.{_≡_, refl, sym, ap, _∙_, subst}
 use mathlib.Core.Logic.{_≢_}
 use mathlib.Core.Bool.{true, false}

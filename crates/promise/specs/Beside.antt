@@ -1,5 +1,5 @@
--- What is proved beside the promise. `Outputs`: what stands in the outputs of scans and refused gets, with the same maps (proofs/Promised).
--- `LentWhole`: the region keeps its length (proofs/Promised).
+-- What is proved beside the promise. `Outputs`: what stands in the outputs of scans and refused gets, with the same
+-- maps (proofs/Promised). `LentWhole`: the region keeps its length (proofs/Promised).
 use mathlib.Core.Path.{_≡_}
 use mathlib.Core.Bool.{false, true}
 use mathlib.Core.List.{List, [], _∷_, _++_}
@@ -28,21 +28,25 @@ pub data Handed : Call → GetAnswer → Bytes → Type 0 where
   handed : {c : Call} {a : GetAnswer} {shown : Bytes} → getRefusal a ≡ none → Handed c a shown
   untouched : {key output : Bytes} {f : Fault} → Handed (get key output) (Get.Refused f) output
 
--- the first of what the map has under a prefix: it misses nothing up to its own last key (proofs/Listed: so it is the front of the map's one list)
+-- the first of what the map has under a prefix: it misses nothing up to its own last key (proofs/Listed: so it is the
+-- front of the map's one list)
 pub record FirstOf (prefix : Bytes) (A : Plain) (is : List Item) : Type 0 where
   pub in-order : rises is ≡ true
-  pub complete : (k : Bytes) → beyond rising (lastOf none is) k ≡ false → fetched k is ≡ pick (begins prefix k) (A k) none
+  pub complete : (k : Bytes) → beyond rising (lastOf none is) k ≡ false
+      → fetched k is ≡ pick (begins prefix k) (A k) none
 
 -- why a scan wrote no more than these: it stopped at the number it was asked for, or the next record did not fit
 unfoldable pub Ended : Plain → Bytes → ℕ → ℕ → List Item → ScanEnd → Type 0
 Ended A prefix most room is End.Finished = Unit {0}
 Ended A prefix most room is End.Stopped = length is ≡ most
-Ended A prefix most room is End.NoRoom = (i : Item) × FirstOf prefix A (is ++ (i ∷ [])) × (ltb room (length (records is) + length (recordOf i)) ≡ true)
+Ended A prefix most room is End.NoRoom =
+    (i : Item) × FirstOf prefix A (is ++ (i ∷ [])) × (ltb room (length (records is) + length (recordOf i)) ≡ true)
 Ended A prefix most room is (End.Refused f) = Unit {0}
 
 -- every scan wrote the first of the map's records, however it ended
 pub data Wrote (A : Plain) : Call → Scanned → Bytes → Type 0 where
-  wrote : {prefix output : Bytes} {most : ℕ} {is : List Item} {e : ScanEnd} → FirstOf prefix A is → Ended A prefix most (length output) is e
+  wrote : {prefix output : Bytes} {most : ℕ} {is : List Item} {e : ScanEnd} → FirstOf prefix A is
+      → Ended A prefix most (length output) is e
       → Wrote A (scanPrefix prefix most output) (scanned e is) (laid (records is) output)
 
 -- what a call shows, while the map is A

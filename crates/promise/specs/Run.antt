@@ -1,5 +1,6 @@
--- How a run goes: any list of calls, new scripts, power cuts and mounts, refused mounts included, each made by the definition's public call. The
--- region is lent whole to every call, and every call but mount is given the newest state.
+-- How a run goes: any list of calls, new scripts, power cuts and mounts, refused mounts included, each made by the
+-- definition's public call. The region is lent whole to every call, and every call but mount is given the newest
+-- state.
 use mathlib.Core.List.{List, [], _∷_}
 use mathlib.Core.Option.{Option, none, some, Option·map}
 use Prim.Native.Nat.{ℕ}
@@ -36,8 +37,9 @@ batched (fromList list) region script st = Public.applyBatch region script st li
 batched (fromPool ops pool) region script st = Public.applyOps region script st ops pool
 
 pub data Call : Type 0 where
-  -- From now on another script, from any place in it. A script says the fate of each item call: a fault, with its effect done or not; the
-  -- power cut, after which every item call fails until a mount; or a pass. A cut that stands stays.
+  -- From now on another script, from any place in it. A script says the fate of each item call: a fault, with its
+  -- effect done or not; the power cut, after which every item call fails until a mount; or a pass. A cut that stands
+  -- stays.
   rescript : (script : Bytes) (at : ℕ) → Call
   -- at any address, and any place in the script: the first mount, one after a cut, or one at any other time
   mount : (start at : ℕ) → Call
@@ -48,7 +50,8 @@ pub data Call : Type 0 where
   applyBatch : (source : Source) → Call
   scanPrefix : (prefix : Bytes) (most : ℕ) (output : Bytes) → Call
 
--- what is heard of a call: its answer, with the output after it where it has one; nothing, of a new script and of a call that is not made
+-- what is heard of a call: its answer, with the output after it where it has one; nothing, of a new script and of a
+-- call that is not made
 pub data Heard : Type 0 where
   nothing : Heard
   answered : Answer → Heard
@@ -68,8 +71,8 @@ refusalOf (listed a output) = scanRefusal (a .end)
 abbrev pub scanned : ScanEnd → List Item → Scanned
 scanned e is = record { end = e; count = length is; length = length (records is) }
 
--- what there is between calls: the region; the script; and the newest state, which is the last mount's or follows from it by the calls since.
--- Before the first mount, and after a refused one, there is none.
+-- what there is between calls: the region; the script; and the newest state, which is the last mount's or follows
+-- from it by the calls since. Before the first mount, and after a refused one, there is none.
 pub record Moment : Type 0 where
   pub region : Bytes
   pub script : Bytes

@@ -25,7 +25,8 @@ fn put_once(
     step: Step,
 ) -> Reply
     requires { ⌜ good (now region) ≡ true ⌝ }
-    ensures { λ r. ⌜ Says (putOnce flat (now (key .entry)) (now (value .entry)) health) (now (region .entry)) (now (script .entry)) step (now (region .exit)) (r .answer) (r .state) (r .calls) [] ⌝ }
+    ensures { λ r. ⌜ Says (putOnce flat (now (key .entry)) (now (value .entry)) health) (now (region .entry))
+        (now (script .entry)) step (now (region .exit)) (r .answer) (r .state) (r .calls) [] ⌝ }
 {
     if let Checked::Refused(fault) = limits::check_put(key, value) {
         return gate::reply(Answer::Refused(fault), health, step);
@@ -47,7 +48,9 @@ fn put_again(
     failed: Failure,
 ) -> Reply
     requires { ⌜ good (now region) ≡ true ⌝ }
-    ensures { λ r. ⌜ Says (putAgain flat (now (key .entry)) (now (value .entry)) health (failed .fault)) (now (region .entry)) (now (script .entry)) (failed .step) (now (region .exit)) (r .answer) (r .state) (r .calls) [] ⌝ }
+    ensures { λ r. ⌜ Says (putAgain flat (now (key .entry)) (now (value .entry)) health (failed .fault))
+        (now (region .entry)) (now (script .entry)) (failed .step) (now (region .exit)) (r .answer) (r .state) (r
+        .calls) [] ⌝ }
 {
     let fault = failed.fault;
     let step = failed.step;
@@ -71,7 +74,8 @@ pub fn put_ready(
     step: Step,
 ) -> Reply
     requires { ⌜ good (now region) ≡ true ⌝ }
-    ensures { λ r. ⌜ Says (putReady (now (key .entry)) (now (value .entry)) health) (now (region .entry)) (now (script .entry)) step (now (region .exit)) (r .answer) (r .state) (r .calls) [] ⌝ }
+    ensures { λ r. ⌜ Says (putReady (now (key .entry)) (now (value .entry)) health) (now (region .entry))
+        (now (script .entry)) step (now (region .exit)) (r .answer) (r .state) (r .calls) [] ⌝ }
 {
     if let Checked::Refused(fault) = limits::check_put(key, value) {
         return gate::reply(Answer::Refused(fault), health, step);

@@ -28,7 +28,8 @@ ghost use Rattle.recovery.specs.Forms.{opFits};
 // Iterates all items: a call opens, one is for each, one more says that there is none.
 fn iterate_all(region: &[u8], script: &[u8], step: Step) -> ItemAnswer
     requires { ⌜ good (now region) ≡ true ⌝ }
-    ensures { λ r. ⌜ Ran (iterate flat (suc (suc (length (items (now (region .entry))))))) (now (region .entry)) (now (script .entry)) step (now (region .entry)) r ⌝ }
+    ensures { λ r. ⌜ Ran (iterate flat (suc (suc (length (items (now (region .entry))))))) (now (region .entry))
+        (now (script .entry)) step (now (region .entry)) r ⌝ }
 {
     let opened = items::iterate_open(region, script, step);
     let ItemAnswer::Done(first) = opened else {
@@ -72,7 +73,8 @@ fn act(
 ) -> ItemAnswer
     requires { ⌜ good (now region) ≡ true ⌝ }
     requires { ⌜ opFits kind (now key) (now value) ≡ true ⌝ }
-    ensures { λ r. ⌜ Ran (Recovery.act flat (opAs kind (now (key .entry)) (now (value .entry)))) (now (region .entry)) (now (script .entry)) step (now (region .exit)) r ⌝ }
+    ensures { λ r. ⌜ Ran (Recovery.act flat (opAs kind (now (key .entry)) (now (value .entry)))) (now (region .entry))
+        (now (script .entry)) step (now (region .exit)) r ⌝ }
 {
     match kind {
         OpKind::Put => items::store(region, script, key, value, step),
@@ -80,7 +82,8 @@ fn act(
     }
 }
 
-// Does the operation, and removes its journal item after it: a cut in between does it twice, never not at all.
+// Does the operation, and removes its journal item after it: a cut in between does it twice, never not at all. The
+// item goes as soon as its operation is done, so that the room it took serves what is still to come.
 pub fn land(
     region: &mut [u8],
     script: &[u8],
@@ -92,7 +95,8 @@ pub fn land(
 ) -> ItemAnswer
     requires { ⌜ good (now region) ≡ true ⌝ }
     requires { ⌜ opFits kind (now key) (now value) ≡ true ⌝ }
-    ensures { λ r. ⌜ Ran (Recovery.land flat index (opAs kind (now (key .entry)) (now (value .entry)))) (now (region .entry)) (now (script .entry)) step (now (region .exit)) r ⌝ }
+    ensures { λ r. ⌜ Ran (Recovery.land flat index (opAs kind (now (key .entry)) (now (value .entry))))
+        (now (region .entry)) (now (script .entry)) step (now (region .exit)) r ⌝ }
 {
     let acted = act(region, script, kind, key, value, step);
     let ItemAnswer::Done(next) = acted else {
@@ -107,7 +111,8 @@ pub fn land(
 // Does what a journal entry says.
 fn redo_entry(region: &mut [u8], script: &[u8], index: u16, entry: &[u8], step: Step) -> ItemAnswer
     requires { ⌜ good (now region) ≡ true ⌝ }
-    ensures { λ r. ⌜ Ran (redoEntry flat index (now (entry .entry))) (now (region .entry)) (now (script .entry)) step (now (region .exit)) r ⌝ }
+    ensures { λ r. ⌜ Ran (redoEntry flat index (now (entry .entry))) (now (region .entry)) (now (script .entry)) step
+        (now (region .exit)) r ⌝ }
 {
     let key = codec::key_part(entry);
     let value = codec::value_part(entry);
@@ -124,7 +129,8 @@ fn redo_entry(region: &mut [u8], script: &[u8], index: u16, entry: &[u8], step: 
 // One journal entry, if it is there: one that is not there was done before.
 fn redo(region: &mut [u8], script: &[u8], index: u16, step: Step) -> ItemAnswer
     requires { ⌜ good (now region) ≡ true ⌝ }
-    ensures { λ r. ⌜ Ran (Recovery.redo flat index) (now (region .entry)) (now (script .entry)) step (now (region .exit)) r ⌝ }
+    ensures { λ r. ⌜ Ran (Recovery.redo flat index) (now (region .entry)) (now (script .entry)) step
+        (now (region .exit)) r ⌝ }
 {
     let journal_key = codec::journal_key(index);
     let fetched = items::fetch(region, script, &journal_key, step);
@@ -138,10 +144,12 @@ fn redo(region: &mut [u8], script: &[u8], index: u16, step: Step) -> ItemAnswer
     redo_entry(region, script, index, &entry[..len], next)
 }
 
-// The whole journal in its order, and the marker last.
+// The whole journal in its order, and the marker last. The marker's count says how far to go: a replay that ended at
+// the first entry it missed would take a batch that was cut half way for done.
 fn replay(region: &mut [u8], script: &[u8], count: u16, step: Step) -> ItemAnswer
     requires { ⌜ good (now region) ≡ true ⌝ }
-    ensures { λ r. ⌜ Ran (Recovery.replay flat count 0) (now (region .entry)) (now (script .entry)) step (now (region .exit)) r ⌝ }
+    ensures { λ r. ⌜ Ran (Recovery.replay flat count 0) (now (region .entry)) (now (script .entry)) step
+        (now (region .exit)) r ⌝ }
 {
     let mut step = step;
     let mut index: u16 = 0;
@@ -160,7 +168,8 @@ fn replay(region: &mut [u8], script: &[u8], count: u16, step: Step) -> ItemAnswe
 // Drops the first journal item left, until there is none.
 fn drop_each(region: &mut [u8], script: &[u8], step: Step) -> ItemAnswer
     requires { ⌜ good (now region) ≡ true ⌝ }
-    ensures { λ r. ⌜ Ran (dropEach flat (journalKeys (items (now (region .entry))))) (now (region .entry)) (now (script .entry)) step (now (region .exit)) r ⌝ }
+    ensures { λ r. ⌜ Ran (dropEach flat (journalKeys (items (now (region .entry))))) (now (region .entry))
+        (now (script .entry)) step (now (region .exit)) r ⌝ }
 {
     let mut held = region::space(region);
     let mut step = step;
@@ -182,7 +191,8 @@ fn drop_each(region: &mut [u8], script: &[u8], step: Step) -> ItemAnswer
 // What is left of a journal that was not committed.
 fn discard(region: &mut [u8], script: &[u8], step: Step) -> ItemAnswer
     requires { ⌜ good (now region) ≡ true ⌝ }
-    ensures { λ r. ⌜ Ran (Recovery.discard flat) (now (region .entry)) (now (script .entry)) step (now (region .exit)) r ⌝ }
+    ensures { λ r. ⌜ Ran (Recovery.discard flat) (now (region .entry)) (now (script .entry)) step (now (region .exit))
+        r ⌝ }
 {
     let iterated = iterate_all(region, script, step);
     let ItemAnswer::Done(next) = iterated else {
@@ -195,7 +205,8 @@ fn discard(region: &mut [u8], script: &[u8], step: Step) -> ItemAnswer
 fn recover_by(region: &mut [u8], script: &[u8], marker: Marker, step: Step) -> ItemAnswer
     requires { ⌜ good (now region) ≡ true ⌝ }
     requires { ⌜ Short marker ⌝ }
-    ensures { λ r. ⌜ Ran (recoverBy flat marker) (now (region .entry)) (now (script .entry)) step (now (region .exit)) r ⌝ }
+    ensures { λ r. ⌜ Ran (recoverBy flat marker) (now (region .entry)) (now (script .entry)) step (now (region .exit))
+        r ⌝ }
 {
     let Marker::Count(count) = marker else {
         let discarded = discard(region, script, step);
@@ -217,7 +228,8 @@ fn recover_by(region: &mut [u8], script: &[u8], marker: Marker, step: Step) -> I
 // Recovers: by the marker, if there is one.
 pub fn recover(region: &mut [u8], script: &[u8], step: Step) -> ItemAnswer
     requires { ⌜ good (now region) ≡ true ⌝ }
-    ensures { λ r. ⌜ Ran (Recovery.recover flat) (now (region .entry)) (now (script .entry)) step (now (region .exit)) r ⌝ }
+    ensures { λ r. ⌜ Ran (Recovery.recover flat) (now (region .entry)) (now (script .entry)) step (now (region .exit))
+        r ⌝ }
 {
     let marker_key = codec::marker_key();
     let fetched = items::fetch(region, script, &marker_key, step);

@@ -197,7 +197,8 @@ fn sweep(region: &[u8]) -> Swept
 fn is_new(before: &[u8], key: &[u8], table: &mut [u8; TABLE], class: usize, classes: usize) -> bool
     requires { ⌜ whole (now before) ≡ true ⌝ }
     requires { ⌜ (length (now table) ≡ tableSize) × (classes ≤ mostClasses) ⌝ }
-    ensures { λ r. ⌜ Tried (now (before .entry)) (now (key .entry)) (now (table .entry)) class classes (now (table .exit)) r ⌝ }
+    ensures { λ r. ⌜ Tried (now (before .entry)) (now (key .entry)) (now (table .entry)) class classes
+        (now (table .exit)) r ⌝ }
 {
     let h = prints::hash(key);
     if prints::class_of(h, classes) != class {
@@ -463,7 +464,8 @@ pub fn remove_counted(region: &mut [u8], key: &[u8], before: Space) -> Space
 pub fn store(region: &mut [u8], key: &[u8], value: &[u8]) -> Stored
     requires { ⌜ good (now region) ≡ true ⌝ }
     requires { ⌜ allowed (length (now key)) (length (now value)) ≡ true ⌝ }
-    ensures { λ r. ⌜ Stores (item (now (key .entry)) (now (value .entry))) (now (region .entry)) (now (region .exit)) r ⌝ }
+    ensures { λ r. ⌜ Stores (item (now (key .entry)) (now (value .entry))) (now (region .entry)) (now (region .exit))
+        r ⌝ }
 {
     let seen = survey(region, key);
     let before = seen.space;

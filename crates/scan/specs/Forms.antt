@@ -34,7 +34,8 @@ passRun s script kept (Done t) = ok kept (world s script t)
 passRun s script kept (Failed f t) = bad f (world s script t)
 
 -- a pass beyond the last key, from step t, answers r and keeps w
-pub record Passes (before : Direction) (s script prefix : Bytes) (last : Option Bytes) (t : Step) (r : ItemAnswer) (w : ScanWindow) : Type 0 where
+pub record Passes (before : Direction) (s script prefix : Bytes) (last : Option Bytes) (t : Step) (r : ItemAnswer)
+    (w : ScanWindow) : Type 0 where
   pub sane : Sane s w
   pub is : passRun s script (windowItems s w) r ≡ exec (windowAfter before flat prefix last) (world s script t)
 
@@ -49,7 +50,10 @@ abbrev pub scannedOf : Listing → Scanned
 scannedOf r = record { end = r .end; count = r .count; length = r .length }
 
 -- a scan of the region s from step t: the items written, the answer at every health, and what it leaves of the output
-pub record Scans (before : Direction) (s script prefix : Bytes) (most : ℕ) (t : Step) (out after : Bytes) (r : Listing) : Type 0 where
+pub record Scans (before : Direction) (s script prefix : Bytes) (most : ℕ) (t : Step) (out after : Bytes)
+    (r : Listing) : Type 0 where
   pub done : List Item
-  pub is : (h : Health) → ok (said (scannedOf r) h (records done)) (world s script (r .step)) ≡ exec (scanFrom before flat prefix most (length out) h) (world s script t)
+  pub is : (h : Health)
+      → ok (said (scannedOf r) h (records done)) (world s script (r .step)) ≡ exec
+      (scanFrom before flat prefix most (length out) h) (world s script t)
   pub made : after ≡ laid (records done) out

@@ -1,5 +1,6 @@
-// Scan (document 01, "Calls"): each pass goes over the whole region and keeps a window of the matching records that come next; the records of a
-// pass are then written to the output. Every function is equal to its definition in `definition/specs/Scan`.
+// Scan (document 01, "Calls"): each pass goes over the whole region and keeps a window of the matching records that
+// come next; the records of a pass are then written to the output. Every function is equal to its definition in
+// `definition/specs/Scan`.
 use codec::Checked;
 use definition::Fault;
 use definition::SCAN_WINDOW;
@@ -49,7 +50,8 @@ fn unmet(met: NextAnswer) -> ItemAnswer
 fn pass(region: &[u8], script: &[u8], prefix: &[u8], last: Last, step: Step) -> Passed
     requires { ⌜ good (now region) ≡ true ⌝ }
     requires { ⌜ LastHeld (now region) last ⌝ }
-    ensures { λ r. ⌜ Passes rising (now (region .entry)) (now (script .entry)) (now (prefix .entry)) (lastKey (now (region .entry)) last) step (r .answer) (r .window) ⌝ }
+    ensures { λ r. ⌜ Passes rising (now (region .entry)) (now (script .entry)) (now (prefix .entry))
+        (lastKey (now (region .entry)) last) step (r .answer) (r .window) ⌝ }
 {
     let mut window = ScanWindow::new();
     let opened = items::iterate_open(region, script, step);
@@ -90,7 +92,8 @@ fn pass(region: &[u8], script: &[u8], prefix: &[u8], last: Last, step: Step) -> 
 
 // ---- the scan
 
-// What a scan answers where a pass failed: the records of earlier passes stand. No caller hands it a pass that is done.
+// What a scan answers where a pass failed: the records of earlier passes stand. No caller hands it a pass that is
+// done.
 fn refused(answer: ItemAnswer, count: usize, length: usize) -> Listing
     ensures { λ r. ⌜ r ≡ refusedAs answer count length ⌝ }
 {
@@ -121,7 +124,8 @@ fn passes(
 ) -> Listing
     requires { ⌜ good (now region) ≡ true ⌝ }
     requires { ⌜ 0 < most ⌝ }
-    ensures { λ r. ⌜ Scans rising (now (region .entry)) (now (script .entry)) (now (prefix .entry)) most step (now (out .entry)) (now (out .exit)) r ⌝ }
+    ensures { λ r. ⌜ Scans rising (now (region .entry)) (now (script .entry)) (now (prefix .entry)) most step
+        (now (out .entry)) (now (out .exit)) r ⌝ }
 {
     let mut step = step;
     let mut end = ScanEnd::Finished;
@@ -180,7 +184,8 @@ pub fn scan_from(
     step: Step,
 ) -> Listing
     requires { ⌜ good (now region) ≡ true ⌝ }
-    ensures { λ r. ⌜ Scans rising (now (region .entry)) (now (script .entry)) (now (prefix .entry)) most step (now (out .entry)) (now (out .exit)) r ⌝ }
+    ensures { λ r. ⌜ Scans rising (now (region .entry)) (now (script .entry)) (now (prefix .entry)) most step
+        (now (out .entry)) (now (out .exit)) r ⌝ }
 {
     if most == 0 {
         return Listing {

@@ -1,5 +1,5 @@
-// The calls of document 01 over single keys, mount, and the display's question. Public: none requires anything, and each is equal to its definition in
-// `definition/specs/Public`: answer, state, item calls and every lent byte.
+// The calls of document 01 over single keys, mount, and the display's question. Public: none requires anything, and
+// each is equal to its definition in `definition/specs/Public`: answer, state, item calls and every lent byte.
 use codec::Checked;
 use codec::Key;
 use definition::Answer;
@@ -21,9 +21,13 @@ ghost use Rattle.definition.specs.Public.{outcome};
 
 // ---- put
 
-// Stores a value under a key.
+// Stores a value under a key. Refusals, in order: 7 for a bad image, with nothing changed and no item call; a
+// recovery's fault, if the store was Pending; 2 for the value's length, 3 for a reserved key, 2 for the key's length,
+// none of which changes anything of its own; then the store's own fault (4 to 12), after which the value may be in or
+// not. A full region in Debris is recovered and tried once more. On the console: `put a 1` says `put ok 1 clean`.
 pub fn put(region: &mut [u8], script: &[u8], state: State, key: &[u8], value: &[u8]) -> Reply
-    ensures { λ r. ⌜ outcome (r .answer) (r .state) (r .calls) (now (region .exit)) [] ≡ Public.put (now (region .entry)) (now (script .entry)) state (now (key .entry)) (now (value .entry)) ⌝ }
+    ensures { λ r. ⌜ outcome (r .answer) (r .state) (r .calls) (now (region .exit)) []
+        ≡ Public.put (now (region .entry)) (now (script .entry)) state (now (key .entry)) (now (value .entry)) ⌝ }
 {
     if !region::is_good(region) {
         return Reply {
@@ -48,9 +52,13 @@ pub fn put(region: &mut [u8], script: &[u8], state: State, key: &[u8], value: &[
 
 // ---- get
 
-// Hands out the value under a key, to the front of `out`.
+// Hands out the value under a key, to the front of `out`. Refusals, in order: 7 for a bad image, with nothing changed
+// and no item call; a recovery's fault, if the store was Pending; the fetch's own fault; 18 with the length that is
+// needed. Each leaves the output as it was. A key that is reserved or too long is absent, and is not fetched. On the
+// console: `get a` says `get found 1 1 clean`, or `get absent 1 clean`.
 pub fn get(region: &mut [u8], script: &[u8], state: State, key: &[u8], out: &mut [u8]) -> GetReply
-    ensures { λ r. ⌜ outcome (r .answer) (r .state) (r .calls) (now (region .exit)) (now (out .exit)) ≡ Public.get (now (region .entry)) (now (script .entry)) state (now (key .entry)) (now (out .entry)) ⌝ }
+    ensures { λ r. ⌜ outcome (r .answer) (r .state) (r .calls) (now (region .exit)) (now (out .exit))
+        ≡ Public.get (now (region .entry)) (now (script .entry)) state (now (key .entry)) (now (out .entry)) ⌝ }
 {
     if !region::is_good(region) {
         return GetReply {
@@ -78,9 +86,12 @@ pub fn get(region: &mut [u8], script: &[u8], state: State, key: &[u8], out: &mut
 
 // ---- contains
 
-// Whether a key has a value.
+// Whether a key has a value. Refusals, in order: 7 for a bad image, with nothing changed and no item call; a
+// recovery's fault, if the store was Pending; the fetch's own fault. A key that is reserved or too long is not there,
+// and is not fetched. On the console: `has a` says `has yes 1 clean`.
 pub fn contains(region: &mut [u8], script: &[u8], state: State, key: &[u8]) -> TruthReply
-    ensures { λ r. ⌜ outcome (r .answer) (r .state) (r .calls) (now (region .exit)) [] ≡ Public.contains (now (region .entry)) (now (script .entry)) state (now (key .entry)) ⌝ }
+    ensures { λ r. ⌜ outcome (r .answer) (r .state) (r .calls) (now (region .exit)) []
+        ≡ Public.contains (now (region .entry)) (now (script .entry)) state (now (key .entry)) ⌝ }
 {
     if !region::is_good(region) {
         return TruthReply {
@@ -108,9 +119,13 @@ pub fn contains(region: &mut [u8], script: &[u8], state: State, key: &[u8]) -> T
 
 // ---- delete
 
-// Removes the value under a key, and says whether there was one.
+// Removes the value under a key, and says whether there was one. Refusals, in order: 7 for a bad image, with nothing
+// changed and no item call; 3 for a reserved key, before any recovery; a recovery's fault, if the store was Pending;
+// the fetch's fault, and then the removal's, after which the value may be gone or not. A key that is too long was
+// never there. On the console: `del a` says `del yes 2 clean`.
 pub fn delete(region: &mut [u8], script: &[u8], state: State, key: &[u8]) -> TruthReply
-    ensures { λ r. ⌜ outcome (r .answer) (r .state) (r .calls) (now (region .exit)) [] ≡ Public.delete (now (region .entry)) (now (script .entry)) state (now (key .entry)) ⌝ }
+    ensures { λ r. ⌜ outcome (r .answer) (r .state) (r .calls) (now (region .exit)) []
+        ≡ Public.delete (now (region .entry)) (now (script .entry)) state (now (key .entry)) ⌝ }
 {
     if !region::is_good(region) {
         return TruthReply {
@@ -136,10 +151,14 @@ pub fn delete(region: &mut [u8], script: &[u8], state: State, key: &[u8]) -> Tru
 
 // ---- mount
 
-// Mounts the region, which stands at `start`, with the script at `at` and no cut; a refused mount hands the place reached back. What the region
-// holds is worked out here, and every call keeps it.
+// Mounts the region, which stands at `start`, with the script at `at` and no cut, and leaves it Clean. What the region
+// holds is worked out here, and every call keeps it. Refusals, in order: 1 for an end at 2^32 or above, a start or an
+// end that is no page's, fewer than two pages, and 7 for a bad image, with nothing changed and no item call; then
+// recovery's fault, with what it did so far. After a refused mount the health is Pending, the place in the script the
+// one reached, and no call should be made but a mount. On the console: `mount 8192` says `mount ok 3 clean`.
 pub fn mount(region: &mut [u8], script: &[u8], start: u32, at: usize) -> Reply
-    ensures { λ r. ⌜ outcome (r .answer) (r .state) (r .calls) (now (region .exit)) [] ≡ Public.mount (now (region .entry)) (now (script .entry)) start at ⌝ }
+    ensures { λ r. ⌜ outcome (r .answer) (r .state) (r .calls) (now (region .exit)) []
+        ≡ Public.mount (now (region .entry)) (now (script .entry)) start at ⌝ }
 {
     let space = region::space(region);
     let state = State {

@@ -1,4 +1,5 @@
-// Document 01's console: each line of standard input is a call on a store in memory, and each answer is a line of standard output.
+// Document 01's console: each line of standard input is a call on a store in memory, and each answer is a line of
+// standard output.
 use definition::Answer;
 use definition::DELETE_KIND;
 use definition::Fault;
@@ -27,7 +28,8 @@ const REGION_SIZE: usize = 65536;
 const LINE_SIZE: usize = 69632;
 // A line of script codes has three bytes for each.
 const SCRIPT_SIZE: usize = 32768;
-// What is on its way: a value, a scan's records, script codes, or a batch's list, in which six bytes of a line may become ten.
+// What is on its way: a value, a scan's records, script codes, or a batch's list, in which six bytes of a line may
+// become ten.
 const WORK_SIZE: usize = 131072;
 // The bytes that are read at once, and those that wait to be written.
 const IN_SIZE: usize = 4096;
@@ -757,7 +759,8 @@ fn shown(out: &[u8], console: Console) -> Console
     }
 }
 
-// A line, and its answer written at once: whoever typed it, or sent it through a pipe, may wait for that before the next line.
+// A line, and its answer written at once: whoever typed it, or sent it through a pipe, may wait for that before the
+// next line.
 fn run_read(
     region: &mut [u8],
     script: &mut [u8],

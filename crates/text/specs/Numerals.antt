@@ -17,7 +17,9 @@ among low high x = pick (leb low x) (leb x high) false
 -- the digits that are left, behind those that say n
 unfoldable pub numeralFrom : ℕ → Bytes → Numeral
 numeralFrom n [] = N.Value n
-numeralFrom n (x ∷ xs) = pick (among 48 57 x) (pick (ltb (n * 10 + (x - 48)) (2 ^ 64)) (numeralFrom (n * 10 + (x - 48)) xs) N.Unread) N.Unread
+numeralFrom n (x ∷ xs) =
+    pick (among 48 57 x)
+    (pick (ltb (n * 10 + (x - 48)) (2 ^ 64)) (numeralFrom (n * 10 + (x - 48)) xs) N.Unread) N.Unread
 
 -- one digit or more
 unfoldable pub numeralOf : Bytes → Numeral

@@ -161,7 +161,8 @@ pub struct Unread {
     pub to: usize,
 }
 
-// How a line came: whole; longer than the line buffer, and then all of it is read and none is kept; or not at all, since the input is over.
+// How a line came: whole; longer than the line buffer, and then all of it is read and none is kept; or not at all,
+// since the input is over.
 pub enum LineKind {
     Whole,
     TooLong,
@@ -247,7 +248,8 @@ pub fn read_line(input: &mut [u8], unread: Unread, line: &mut [u8]) -> LineAnswe
     let mut from = unread.from;
     let mut to = unread.to;
     let mut held = Held { len: 0, fits: true };
-    // A proved loop has to end, and nothing says that the input does: the turns go down from a number that no run uses up.
+    // A proved loop has to end, and nothing says that the input does: the turns go down from a number that no run
+    // uses up.
     let mut turns = u64::MAX;
     while 0 < turns {
         let end = from + find(&input[from..to], LINE_END);

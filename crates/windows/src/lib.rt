@@ -1,5 +1,6 @@
-// The window of a scan (document 01, "Calls"): the eight smallest matching keys above the last one written, by their places, and the record
-// at a place written out. Inner: a place must hold a record. Every function is equal to its definition in `definition/specs/Scan`.
+// The window of a scan (document 01, "Calls"): the eight smallest matching keys above the last one written, by their
+// places, and the record at a place written out. Inner: a place must hold a record. Every function is equal to its
+// definition in `definition/specs/Scan`.
 use codec::Checked;
 use codec::Key;
 use definition::CapacityKind;
@@ -151,7 +152,8 @@ impl ScanWindow {
     // Puts a place at an index; those from there on move up, and of nine the last drops out.
     fn insert_at(self, at: usize, place: Place) -> Self
         requires { ⌜ (length (self .places) ≡ Scan.windowSize) × (self .len ≤ Scan.windowSize) × (at ≤ self .len) ⌝ }
-        ensures { λ r. ⌜ (length (r .places) ≡ Scan.windowSize) × (r .len ≤ Scan.windowSize) × (filled r ≡ take Scan.windowSize (put at place (filled self))) ⌝ }
+        ensures { λ r. ⌜ (length (r .places) ≡ Scan.windowSize) × (r .len ≤ Scan.windowSize) × (filled r
+            ≡ take Scan.windowSize (put at place (filled self))) ⌝ }
     {
         let mut places = self.places;
         let len = self.len;
@@ -174,7 +176,8 @@ impl ScanWindow {
     fn offer(self, region: &[u8], place: Place) -> Self
         requires { ⌜ Sane (now region) self ⌝ }
         requires { ⌜ Held (now region) place ⌝ }
-        ensures { λ r. ⌜ Holds (now (region .entry)) (take Scan.windowSize (insert rising (placeItem (now (region .entry)) place) (windowItems (now (region .entry)) self))) r ⌝ }
+        ensures { λ r. ⌜ Holds (now (region .entry)) (take Scan.windowSize (insert rising (placeItem
+            (now (region .entry)) place) (windowItems (now (region .entry)) self))) r ⌝ }
     {
         let at = self.position(region, key_of(region, place));
         self.insert_at(at, place)
@@ -184,7 +187,8 @@ impl ScanWindow {
     pub fn last_of(self, region: &[u8], last: Last) -> Last
         requires { ⌜ Sane (now region) self ⌝ }
         requires { ⌜ LastHeld (now region) last ⌝ }
-        ensures { λ r. ⌜ Lasts (now (region .entry)) (Scan.lastOf (lastKey (now (region .entry)) last) (windowItems (now (region .entry)) self)) r ⌝ }
+        ensures { λ r. ⌜ Lasts (now (region .entry)) (Scan.lastOf (lastKey (now (region .entry)) last) (windowItems
+            (now (region .entry)) self)) r ⌝ }
     {
         let len = self.len;
         if len == 0 {
@@ -198,7 +202,8 @@ impl ScanWindow {
     pub fn advances(self, region: &[u8], last: Last) -> bool
         requires { ⌜ Sane (now region) self ⌝ }
         requires { ⌜ LastHeld (now region) last ⌝ }
-        ensures { λ r. ⌜ r ≡ Scan.advances rising (lastKey (now (region .entry)) last) (windowItems (now (region .entry)) self) ⌝ }
+        ensures { λ r. ⌜ r ≡ Scan.advances rising (lastKey (now (region .entry)) last)
+            (windowItems (now (region .entry)) self) ⌝ }
     {
         match self.last_of(region, Last::Nothing) {
             Last::At(place) => beyond(region, last, key_of(region, place)),
@@ -220,7 +225,9 @@ pub fn keep(
     requires { ⌜ LastHeld (now region) last ⌝ }
     requires { ⌜ Sane (now region) window ⌝ }
     requires { ⌜ Held (now region) place ⌝ }
-    ensures { λ r. ⌜ Holds (now (region .entry)) (Scan.keep rising (now (prefix .entry)) (lastKey (now (region .entry)) last) (placeItem (now (region .entry)) place) (windowItems (now (region .entry)) window)) r ⌝ }
+    ensures { λ r. ⌜ Holds (now (region .entry)) (Scan.keep rising (now (prefix .entry)) (lastKey
+        (now (region .entry)) last) (placeItem (now (region .entry)) place) (windowItems (now (region .entry))
+        window)) r ⌝ }
 {
     if !matches(region, prefix, place) {
         return window;
@@ -235,7 +242,8 @@ pub fn keep(
 pub fn put_place(region: &[u8], place: Place, out: &mut [u8], at: usize)
     requires { ⌜ Held (now region) place ⌝ }
     requires { ⌜ at + length (recordOf (placeItem (now region) place)) ≤ length (now out) ⌝ }
-    ensures { λ _. ⌜ now (out .exit) ≡ written (now (out .entry)) at (recordOf (placeItem (now (region .entry)) place)) ⌝ }
+    ensures { λ _. ⌜ now (out .exit) ≡ written (now (out .entry)) at
+        (recordOf (placeItem (now (region .entry)) place)) ⌝ }
 {
     let value = region::value_at(region, place.at, place.klen, place.vlen);
     region::put_record(out, at, key_of(region, place), value);

@@ -1,5 +1,5 @@
--- `exports::takes_ops` meets its contract: a walk of its MIR, by hand, for it is lent a slice of structs. The state is converted, the call made with the
--- region given up to it, and its reply converted.
+-- `exports::takes_ops` meets its contract: a walk of its MIR, by hand, for it is lent a slice of structs. The state
+-- is converted, the call made with the region given up to it, and its reply converted.
 use mathlib.Core.Path.{_≡_, refl, _∙_, ap, subst}
 use Prim.Native.Nat.{ℕ}
 use mathlib.Core.List.{[], _∷_, List}

@@ -1,4 +1,5 @@
--- `host::apply_ops` meets its contract: a call with a lent list of structs and a lent slice of bytes besides the region and the script.
+-- `host::apply_ops` meets its contract: a call with a lent list of structs and a lent slice of bytes besides the
+-- region and the script.
 use mathlib.Core.Path.{_≡_}
 use mathlib.Core.List.{[]}
 use Rattle.definition.specs.Public.{outcome, applyOps}

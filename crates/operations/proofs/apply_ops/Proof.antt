@@ -1,5 +1,6 @@
--- `operations::apply_ops` meets its contract: a walk of its MIR, by hand. The region is lent again for `begin` and at each turn for `one`; a turn
--- reads its operation out of the slice; the loop is left with a work that `reply` makes the answer of.
+-- `operations::apply_ops` meets its contract: a walk of its MIR, by hand. The region is lent again for `begin` and at
+-- each turn for `one`; a turn reads its operation out of the slice; the loop is left with a work that `reply` makes
+-- the answer of.
 use mathlib.Core.Path.{_≡_, refl, sym, _∙_, ap, subst}
 use Prim.Native.Nat.{ℕ, _<_, _^_, _*_}
 use native.Mathlib.Omega.{arith}
@@ -394,7 +395,8 @@ module _ {M : Type 1} (𝓤 : URA M) (H : Heap 𝓤) (A : Atoms 𝓤) (W : Given
         (LL.copy T.the-type T′.the-copy 𝓤 H A W) ops b₂ o₂ (λ q′.
         elem-out ! R (Is R) (shows 𝓤 H A R) (LL.vals T.the-type T′.the-laws) (LL.tells T.the-type T′.the-laws) q′ ops
         (t .w .next) none-left b₂ o₂ less (λ g.
-        -- [ops[i]; what it owns; the others; what shuts; the fractured borrow; Own₂; κ₀; Own₀; κ₁; Own₁; κ₃; Own₃; _16; …]
+        -- [ops[i]; what it owns; the others; what shuts; the fractured borrow; Own₂; κ₀; Own₀; κ₁; Own₁; κ₃; Own₃;
+        -- _16; …]
         assigns ! (of-opd ! (load ! (from ! (hop ! (look ! 18 refl) (stop !))) (look-raw ! 0 refl))) (from ! (stop !)) (init ! 16 refl
         (LL.lawful T.the-type T′.the-laws 𝓤 H A W .typed op _ g .0)) $
         elem-back ! R q′ ops (t .w .next) none-left (o-val op ∷ []) b₂ o₂ less $ shuts-slice ! tt R q′ ops b₂ o₂ $ move ! (1 ∷ []) $ drop ! $
