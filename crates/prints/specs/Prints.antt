@@ -42,19 +42,19 @@ unfoldable pub classOf : ℕ → ℕ → ℕ
 classOf n h = h % mostClasses * n / mostClasses
 
 abbrev pub firstPlace : ℕ → ℕ
-firstPlace h = h / 1048576
+firstPlace h = h / 524288
 
 -- never 0, which is a gap
 abbrev pub printOf : ℕ → ℕ
 printOf h = h / 4096 % 255 + 1
 
--- ---- a table: 4096 first places, and behind the last as many more as a look goes along
+-- ---- a table: 8192 first places, and behind the last as many more as a look goes along
 
 abbrev pub lookLength : ℕ
 lookLength = 16
 
 abbrev pub tableSize : ℕ
-tableSize = 4112
+tableSize = 8208
 
 -- whether the print f may have been noted at i or behind it, n places in all: prints stand there without a gap, and a
 -- look that met neither the print nor a gap cannot tell

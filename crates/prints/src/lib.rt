@@ -14,13 +14,13 @@ const SPREAD: usize = 2654435769;
 // The most classes.
 const CLASSES: usize = 4096;
 // The keys of a class: as many as fill half of a table.
-const PER_CLASS: usize = 2048;
+const PER_CLASS: usize = 4096;
 // How many places a look goes along.
 const LOOK: usize = 16;
-// How many hashes share a first place, so that there are 4096.
-const PER_PLACE: usize = 1048576;
+// How many hashes share a first place, so that there are 8192.
+const PER_PLACE: usize = 524288;
 // The bytes of a table: the first places and those behind the last, so that no look wraps around.
-pub const TABLE: usize = 4112;
+pub const TABLE: usize = 8208;
 
 // ---- a key's hash
 
