@@ -1,5 +1,7 @@
 // apply_batch over a lent operation list. Document 01 defines it in "Calls", under batch: tests, recovery, journal,
 // marker, application. The functions are split where the definition's programs are; each walks the list by place.
+#![tactic(auto)]
+
 ghost use Rattle.std.specs.Prelude.{◌≡◌, true, [], length};
 ghost use Rattle.definition.specs.Region.{good};
 ghost use Rattle.definition.specs.Program.{flat};

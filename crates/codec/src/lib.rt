@@ -1,6 +1,8 @@
 // Document 01, "Codecs": keys and their order, and the journal entry written; the marker, the journal key and an
 // entry read are passed on from below. Every function takes any input and equals its definition in
 // `definition/specs/Codec`.
+#![tactic(auto)]
+
 ghost use Rattle.std.specs.Prelude.{◌≡◌, ◌+◌, ◌≤◌, ◌<◌, length};
 ghost use Rattle.definition.specs.Codec;
 ghost use Rattle.definition.specs.Codec.{Put, key_write, key_bytes, key_length, op_fault, laid_if};
@@ -14,28 +16,28 @@ pub use entries::{decode_entry, key_part, value_part};
 pub use marks::{decode_marker, encode_marker, journal_key, marker_key, reserved};
 
 // What an operation of a batch is.
-#[derive(Drop)]
+#[derive(Clone, Copy)]
 pub enum OpKind {
     Put,
     Delete,
 }
 
 // What the tests of an operation say.
-#[derive(Drop)]
+#[derive(Clone, Copy)]
 pub enum Checked {
     Fine,
     Refused(Fault),
 }
 
 // A key by value: its bytes, then zeros.
-#[derive(Drop)]
+#[derive(Clone, Copy)]
 pub struct Key {
     pub bytes: [u8; MAX_KEY_LEN],
     pub len: usize,
 }
 
 // A key that was read, with the bytes it took; no key where reading refused.
-#[derive(Drop)]
+#[derive(Clone, Copy)]
 pub struct KeyRead {
     pub answer: CodecAnswer,
     pub key: Key,

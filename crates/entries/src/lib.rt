@@ -1,5 +1,7 @@
 // A journal entry read: document 01, "Codecs". Every function takes any input and equals its definition in
 // `definition/specs/Codec`; `codec` passes them on.
+#![tactic(auto)]
+
 ghost use Rattle.std.specs.Prelude.{◌≡◌};
 ghost use Rattle.definition.specs.Codec.{entry_of, key_part, value_part};
 ghost use Rattle.entries.specs.Forms.{EntryReads};

@@ -11,7 +11,7 @@ use definition::{CodecAnswer, Fault, Order};
 // What a codec says. answer 1: so many bytes, taken, written or asked for; 0: refused, with document 01's number and
 // values.
 #[repr(C)]
-#[derive(Drop)]
+#[derive(Clone, Copy)]
 pub struct CCodec {
     pub answer: u64,
     pub number: u64,
@@ -23,7 +23,7 @@ pub struct CCodec {
 
 // What reading gives: the key's bytes, then zeros, and how many there are; none where it is refused.
 #[repr(C)]
-#[derive(Drop)]
+#[derive(Clone, Copy)]
 pub struct CKey {
     pub said: CCodec,
     pub bytes: [u8; 96],

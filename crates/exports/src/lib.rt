@@ -1,5 +1,7 @@
 // The calls for a host in C or Rust: one exported function a call, over structs of plain numbers by value and lent
 // slices. Only numbers cross; the conversions are proved, and each function is its call of document 01 between them.
+#![tactic(auto)]
+
 mod codecs;
 
 ghost use Rattle.std.specs.Prelude.{◌≡◌};
@@ -16,7 +18,7 @@ use numbers::Three;
 // bytes used and free, and the takes. Every number has a meaning: any other health is Pending, which recovers before
 // anything is read, and any cut but 0 is a cut that stands.
 #[repr(C)]
-#[derive(Drop)]
+#[derive(Clone, Copy)]
 pub struct CState {
     pub health: u64,
     pub at: u64,
@@ -31,7 +33,7 @@ pub struct CState {
 // are the state to keep: handed back as a CState they are the very state that the call left (proofs/HandedBack), so
 // that what is promised of the calls is promised to a host.
 #[repr(C)]
-#[derive(Drop)]
+#[derive(Clone, Copy)]
 pub struct CReply {
     pub answer: u64,
     pub number: u64,
@@ -51,7 +53,7 @@ pub struct CReply {
 
 // What a display shows: the bytes used and free, and the takes.
 #[repr(C)]
-#[derive(Drop)]
+#[derive(Clone, Copy)]
 pub struct CSpace {
     pub used: u64,
     pub free: u64,

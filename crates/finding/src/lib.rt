@@ -1,5 +1,7 @@
 // One key looked up, and handed out or removed, in a store that is ready: document 01, "Calls". The public calls are
 // `store::get`, `store::contains` and `store::delete`.
+#![tactic(auto)]
+
 ghost use Rattle.std.specs.Prelude.{◌≡◌, true, [], length};
 ghost use Rattle.definition.specs.Region.{good};
 ghost use Rattle.definition.specs.Program.{flat};

@@ -1,5 +1,7 @@
 // What every public call begins and ends with: where it stands, the recovery that its health asks for, and its reply.
 // Document 01 has it in "Recovery and health" and in "Numbers a caller can hear".
+#![tactic(auto)]
+
 ghost use Rattle.std.specs.Prelude.{◌≡◌, true, not};
 ghost use Rattle.definition.specs.Calls;
 ghost use Rattle.definition.specs.Region.{good};
@@ -10,7 +12,7 @@ use definition::{Answer, Fault, Health, Reply, State, Step, TruthAnswer, TruthRe
 use items::{Failure, ItemAnswer};
 
 // A store that is ready, with its health, or a recovery that failed.
-#[derive(Drop)]
+#[derive(Clone, Copy)]
 pub enum Converged {
     Ready(Health, Step),
     Failed(Fault, Step),

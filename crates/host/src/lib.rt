@@ -2,6 +2,8 @@
 // its reply says. Every function is its call by value, with the record copied in and the reply's written back; what
 // the call answers, and what it does to the region and to the output, is its definition's in
 // `definition/specs/Public`.
+#![tactic(auto)]
+
 ghost use Rattle.std.specs.Prelude.{◌≡◌, []};
 ghost use Rattle.definition.specs.Public;
 ghost use Rattle.definition.specs.Public.{outcome};

@@ -1,5 +1,7 @@
 // The item calls of document 01: the fault script over the region. Each spends one step of the script, and is equal
 // to the run of its one-call program in `definition/specs/Program`.
+#![tactic(auto)]
+
 ghost use Rattle.std.specs.Prelude.{◌≡◌, true, length};
 ghost use Rattle.definition.specs.Region.{item, good, allowed};
 ghost use Rattle.definition.specs.Space.{space_of};
@@ -11,28 +13,28 @@ use definition::{Fault, Space, Step, Verdict};
 use region::{Next, Spot, Stored};
 
 // What a store, a removal or an opened iteration answers.
-#[derive(Drop)]
+#[derive(Clone, Copy)]
 pub enum ItemAnswer {
     Done(Step),
     Failed(Fault, Step),
 }
 
 // What a fetch answers: where the value stands.
-#[derive(Drop)]
+#[derive(Clone, Copy)]
 pub enum FetchAnswer {
     Got(Spot, Step),
     Missed(Fault, Step),
 }
 
 // What the next step of an iteration answers: the item at its place, or that none is left.
-#[derive(Drop)]
+#[derive(Clone, Copy)]
 pub enum NextAnswer {
     Met(Next, Step),
     Unmet(Fault, Step),
 }
 
 // Why an item call failed, and where its call then stands.
-#[derive(Drop)]
+#[derive(Clone, Copy)]
 pub struct Failure {
     pub fault: Fault,
     pub step: Step,

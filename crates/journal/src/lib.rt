@@ -1,5 +1,7 @@
 // A batch's journal: the entry of one operation, the marker that commits, and what follows a fault from then on.
 // Document 01 defines them in "Calls", under batch. What a batch's operations are read from is no matter here.
+#![tactic(auto)]
+
 ghost use Rattle.std.specs.Prelude.{◌≡◌, true, []};
 ghost use Rattle.std.proofs.Math.Option.{none};
 ghost use Rattle.definition.specs.Codec.{op_fault, encode, marker_key, journal_key};

@@ -1,5 +1,7 @@
 // What a call refuses by a look at its arguments, and whether a put is tried again: the tests of document 01's
 // "Calls" that read no region. Apart from the calls, so that a limit is proved, and a wrong one refused, by itself.
+#![tactic(auto)]
+
 ghost use Rattle.std.specs.Prelude.{◌≡◌};
 ghost use Rattle.definition.specs.Calls;
 ghost use Rattle.definition.specs.Calls.{put_fault, region_fault};

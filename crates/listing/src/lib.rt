@@ -1,5 +1,7 @@
 // The public scan: document 01, "Calls", scan. It requires nothing, and is equal to its definition in
 // `definition/specs/Public`: answer, state, item calls and every lent byte.
+#![tactic(auto)]
+
 ghost use Rattle.std.specs.Prelude.{◌≡◌};
 ghost use Rattle.definition.specs.Public;
 ghost use Rattle.definition.specs.Public.{outcome};

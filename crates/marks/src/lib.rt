@@ -1,6 +1,8 @@
 // The bookkeeping keys and the marker: document 01, "Codecs", and of "Recovery and health" the test of a marker's
 // count. Every function takes any input and equals its definition in `definition/specs/Codec` and `Recovery`; `codec`
 // passes the codecs on.
+#![tactic(auto)]
+
 ghost use Rattle.std.specs.Prelude.{◌≡◌};
 ghost use Rattle.definition.specs.Codec;
 ghost use Rattle.definition.specs.Codec.{journal_key, marker, marker_key};

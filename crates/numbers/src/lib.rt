@@ -1,4 +1,6 @@
 // Document 01, "Numbers a caller can hear": the number of every refusal, and the values behind it.
+#![tactic(auto)]
+
 ghost use Rattle.std.specs.Prelude.{◌≡◌};
 ghost use Rattle.definition.specs.Numbers;
 ghost use Rattle.definition.specs.Numbers.{region_kind, capacity_kind, driver_kind};
@@ -7,7 +9,7 @@ ghost use Rattle.numbers.specs.Forms.{serialization_three, journal_three, values
 use definition::{CapacityKind, DriverKind, Fault, JournalPart, RegionKind, SerializationKind};
 
 // The values of a refusal, as many as it has, then zeros.
-#[derive(Drop)]
+#[derive(Clone, Copy)]
 pub struct Three(pub usize, pub usize, pub usize);
 
 pub fn number(fault: Fault) -> u8

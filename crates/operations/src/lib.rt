@@ -2,6 +2,8 @@
 // in "Shapes that must change"; what it answers is the batch of "Calls". The entry goes over the list four times and
 // does nothing but hand each operation to `one`: the pass that it stands in says what is done with it, and the last
 // of a pass does what comes behind the pass.
+#![tactic(auto)]
+
 ghost use Rattle.std.specs.Prelude.{◌≡◌, true, [], ◌<◌, ◌≤◌, ◌*◌};
 ghost use Rattle.definition.specs.Codec.{batch_limit};
 ghost use Rattle.definition.specs.Region.{good};
@@ -18,7 +20,7 @@ use gate::Converged;
 use items::ItemAnswer;
 
 // The passes over the list, in document 01's order; then there is an answer.
-#[derive(Drop)]
+#[derive(Clone, Copy)]
 pub enum Pass {
     Shape,
     Tests,
@@ -29,7 +31,7 @@ pub enum Pass {
 
 // What is kept from operation to operation: the pass, the place of the next operation among so many, and what the
 // call's reply is made of.
-#[derive(Drop)]
+#[derive(Clone, Copy)]
 pub struct Work {
     pub pass: Pass,
     pub next: usize,

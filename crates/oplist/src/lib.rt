@@ -1,6 +1,8 @@
 // A batch's operation list, read where it is lent. Document 01 defines it in its last lines of "Calls": records as
 // the region's, kind 1 put, kind 2 delete with no value, ending exactly. Nothing above this crate knows a byte of a
 // list; an operation's parts are `region::key_at` and `region::value_at`.
+#![tactic(auto)]
+
 ghost use Rattle.std.specs.Prelude.{◌≡◌, ◌+◌, ◌<◌, length};
 ghost use Rattle.definition.specs.OperationList.{ops_of};
 ghost use Rattle.oplist.specs.Places.{Visit, shape_of};
@@ -9,14 +11,14 @@ use codec::OpKind;
 use definition::{DELETE_KIND, HEAD_SIZE, KEY_LEN_AT, PUT_KIND, VALUE_LEN_AT};
 
 // What stands at a place: an operation, its key's and its value's length and the place behind it; or none.
-#[derive(Drop)]
+#[derive(Clone, Copy)]
 pub enum Next {
     Op(OpKind, usize, usize, usize),
     Nothing,
 }
 
 // Whether the whole list is one of operations, and of how many.
-#[derive(Drop)]
+#[derive(Clone, Copy)]
 pub enum Shape {
     Listed(usize),
     Malformed,

@@ -1,4 +1,6 @@
 // Standard output through a buffer, for the console programs: bytes as they are, numbers in decimal, bytes in hex.
+#![tactic(auto)]
+
 ghost use Rattle.std.specs.Prelude.{◌≡◌, ◌<◌};
 ghost use Rattle.io.specs.Digits.{last_digits};
 ghost use Rattle.io.specs.Digits.{hex_digit_ascii as Digits·glyph};

@@ -1,6 +1,8 @@
 // Operation structs over a lent byte pool. Document 01 has them in "Shapes that must change": a struct names its key
 // and its value as parts of one pool, and a part outside it, or another kind, is no operation. Nothing above this
 // crate knows how a struct names a part.
+#![tactic(auto)]
+
 ghost use Rattle.std.specs.Prelude.{◌≡◌, true};
 ghost use Rattle.pooled.specs.Parts.{part_at, inside, is_kind, is_op, kind_of};
 

@@ -2,6 +2,8 @@
 // says of another key that it is new, or that it may have been passed. The contracts say no more of a table than the
 // image test needs: what was noted stays noted. Its numbers decide only how long a test takes; docs/DECISIONS.md,
 // "The image test", says why they are these.
+#![tactic(auto)]
+
 ghost use Rattle.std.specs.Prelude.{◌≡◌, ◌<◌, ◌≤◌, length};
 ghost use Rattle.prints.specs.Prints.{word, mixed, finished, hash_of, most_classes, class_of, table_size, Notes};
 

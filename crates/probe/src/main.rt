@@ -1,5 +1,7 @@
 // Runs item-level cases. Each line is a region, a script, a look at the region or an item call; the answers are lines
 // too. Bytes stand in hex, and `-` stands for none.
+#![tactic(auto)]
+
 ghost use Rattle.std.specs.Prelude.{◌≡◌, true, ◌≤◌, length};
 ghost use Rattle.definition.specs.Region.{good};
 ghost use Rattle.region.specs.Places.{InSpot, Visit};
@@ -23,7 +25,7 @@ const IN_SIZE: usize = 4096;
 const OUT_SIZE: usize = 4096;
 
 // What a line asks for.
-#[derive(Drop)]
+#[derive(Clone, Copy)]
 enum Command {
     Region,
     Script,
@@ -39,7 +41,7 @@ enum Command {
 }
 
 // Where a case stands: its item calls, the place of its iteration, and how many bytes wait to be written.
-#[derive(Drop)]
+#[derive(Clone, Copy)]
 struct Run {
     step: Step,
     place: usize,
@@ -47,7 +49,7 @@ struct Run {
 }
 
 // What is kept from line to line: the lengths of the region and of the script, and where the case stands.
-#[derive(Drop)]
+#[derive(Clone, Copy)]
 struct Bench {
     region: usize,
     script: usize,

@@ -1,4 +1,6 @@
 // A put on a store that is ready: document 01, "Calls". The public call is `store::put`.
+#![tactic(auto)]
+
 ghost use Rattle.std.specs.Prelude.{◌≡◌, true, []};
 ghost use Rattle.definition.specs.Region.{good};
 ghost use Rattle.definition.specs.Program.{flat};

@@ -1,5 +1,7 @@
 // Document 01, "Recovery and health": a committed batch is finished from its journal, and what is left of any other
 // is dropped.
+#![tactic(auto)]
+
 ghost use Rattle.std.specs.Prelude.{◌≡◌, true, suc, ◌+◌, ◌≤◌, ◌<◌, length, take, drop};
 ghost use Rattle.definition.specs.Region.{good, items};
 ghost use Rattle.definition.specs.Program.{flat};

@@ -1,6 +1,8 @@
 // The region's bytes: the image test, the records by place and by key, and the two item calls that write. Document 01
 // defines them in "The region and its items"; the contracts say that each function is that definition. Nothing above
 // this crate knows a byte of a record, but for the lengths and heads that it passes on from `records`.
+#![tactic(auto)]
+
 ghost use Rattle.std.specs.Prelude.{◌≡◌, true, ◌+◌, ◌-◌, ◌≤◌, leb, length, drop};
 ghost use Rattle.definition.specs.Region;
 ghost use Rattle.definition.specs.Region.{item, distinct, allowed, items, whole, good};
@@ -19,42 +21,42 @@ pub use records::{agrees, header, is_allowed, put_record, size, span};
 const NO_KEY_LEN: usize = ERASED as usize;
 
 // What a walk meets at a place: a record's key length, value length and the next place; or the walk is over.
-#[derive(Drop)]
+#[derive(Clone, Copy)]
 pub enum Next {
     Item(usize, usize, usize),
     Nothing,
 }
 
 // Where the record with a key stands, its key length and its value length.
-#[derive(Drop)]
+#[derive(Clone, Copy)]
 pub enum Found {
     At(usize, usize, usize),
     Nothing,
 }
 
 // What stands behind the records of a region: only 0xFF, and then how many records there are; or something else.
-#[derive(Drop)]
+#[derive(Clone, Copy)]
 pub enum Swept {
     Whole(usize),
     Broken,
 }
 
 // What one walk has seen: what the region holds, and where the record with a key stands.
-#[derive(Drop)]
+#[derive(Clone, Copy)]
 pub struct Seen {
     pub space: Space,
     pub found: Found,
 }
 
 // Where bytes stand, and how many.
-#[derive(Drop)]
+#[derive(Clone, Copy)]
 pub enum Spot {
     At(usize, usize),
     Nothing,
 }
 
 // What a store answers: what the region then holds, or that there was no room.
-#[derive(Drop)]
+#[derive(Clone, Copy)]
 pub enum Stored {
     Done(Space),
     Full,

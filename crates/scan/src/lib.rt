@@ -1,6 +1,8 @@
 // Scan (document 01, "Calls"): each pass goes over the whole region and keeps a window of the matching records that
 // come next; the records of a pass are then written to the output. Every function is equal to its definition in
 // `definition/specs/Scan`.
+#![tactic(auto)]
+
 ghost use Rattle.std.specs.Prelude.{◌≡◌, true, ◌<◌};
 ghost use Rattle.definition.specs.Region.{good};
 ghost use Rattle.definition.specs.Scan.{rising};
@@ -14,14 +16,14 @@ use region::Next;
 use windows::{Last, Place, ScanWindow};
 
 // What a pass comes to: its answer, and the window beside it.
-#[derive(Drop)]
+#[derive(Clone, Copy)]
 pub struct Passed {
     pub answer: ItemAnswer,
     pub window: ScanWindow,
 }
 
 // What a scan comes to: how it ended, the records and bytes in the output, and where the call stands.
-#[derive(Drop)]
+#[derive(Clone, Copy)]
 pub struct Listing {
     pub end: ScanEnd,
     pub count: usize,

@@ -1,4 +1,6 @@
 // Document 01, "The fault script": the fate of the next item call, and where a call stands after it.
+#![tactic(auto)]
+
 ghost use Rattle.std.specs.Prelude.{◌≡◌};
 ghost use Rattle.definition.specs.Script;
 ghost use Rattle.definition.specs.Script.{fault_of, byte_fate};

@@ -1,5 +1,7 @@
 // The calls of document 01 over single keys, mount, and the display's question. Public: none requires anything, and
 // each is equal to its definition in `definition/specs/Public`: answer, state, item calls and every lent byte.
+#![tactic(auto)]
+
 ghost use Rattle.std.specs.Prelude.{◌≡◌, []};
 ghost use Rattle.definition.specs.Public;
 ghost use Rattle.definition.specs.Public.{outcome};

@@ -1,5 +1,7 @@
 // Document 01's console: each line of standard input is a call on a store in memory, and each answer is a line of
 // standard output.
+#![tactic(auto)]
+
 ghost use Rattle.std.specs.Prelude.{◌≡◌, ◌≤◌, length};
 ghost use Rattle.text.specs.Words.{Fills};
 ghost use Rattle.takes.specs.Kept.{Kept};
@@ -30,7 +32,7 @@ const LIST_KEY_LIMIT: usize = 255;
 const LIST_VALUE_LIMIT: usize = 65535;
 
 // What a line asks for.
-#[derive(Drop)]
+#[derive(Clone, Copy)]
 enum Command {
     Mount,
     Script,
@@ -45,7 +47,7 @@ enum Command {
 }
 
 // What is left of a call: whether a store is mounted, its state, and how many bytes wait to be written.
-#[derive(Drop)]
+#[derive(Clone, Copy)]
 struct Said {
     mounted: bool,
     state: State,
@@ -53,7 +55,7 @@ struct Said {
 }
 
 // What is kept from line to line: the lengths of the region and of the script, and what is left of the calls so far.
-#[derive(Drop)]
+#[derive(Clone, Copy)]
 struct Console {
     region: usize,
     script: usize,

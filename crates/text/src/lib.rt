@@ -1,4 +1,6 @@
 // What the console programs read: the lines of standard input, the words of a line, and numbers in text.
+#![tactic(auto)]
+
 ghost use Rattle.std.specs.Prelude.{◌≡◌, ◌+◌, ◌-◌, ◌≤◌, ◌<◌, length, take, drop};
 ghost use Rattle.text.specs.Words.{Finds, Skips, NextWord};
 ghost use Rattle.text.specs.Numerals.{numeral_of, Digit, pair_of};
@@ -13,7 +15,7 @@ const LINE_END: u8 = 10;
 // ---- the words of a line
 
 // Where a word stands: from its first byte to the place behind its last. It is empty where the line has no word left.
-#[derive(Drop)]
+#[derive(Clone, Copy)]
 pub struct Field {
     pub from: usize,
     pub to: usize,
@@ -72,7 +74,7 @@ pub fn word(line: &[u8], field: Field) -> &[u8]
 }
 
 // How many bytes of a buffer words filled, or that they cannot be read.
-#[derive(Drop)]
+#[derive(Clone, Copy)]
 pub enum Filled {
     To(usize),
     Unread,
@@ -81,14 +83,14 @@ pub enum Filled {
 // ---- numbers in text
 
 // What a word says as a number, or that it says none.
-#[derive(Drop)]
+#[derive(Clone, Copy)]
 pub enum Numeral {
     Value(u64),
     Unread,
 }
 
 // What a hex digit or two of them say.
-#[derive(Drop)]
+#[derive(Clone, Copy)]
 pub enum Hex {
     Value(u8),
     Unread,
@@ -159,7 +161,7 @@ pub fn read_hex(word: &[u8]) -> Hex
 // ---- standard input in lines
 
 // The part of the input buffer that is read and not yet handed out.
-#[derive(Drop)]
+#[derive(Clone, Copy)]
 pub struct Unread {
     pub from: usize,
     pub to: usize,
@@ -167,7 +169,7 @@ pub struct Unread {
 
 // How a line came: whole; longer than the line buffer, and then all of it is read and none is kept; or not at all,
 // since the input is over.
-#[derive(Drop)]
+#[derive(Clone, Copy)]
 pub enum LineKind {
     Whole,
     TooLong,
@@ -175,7 +177,7 @@ pub enum LineKind {
 }
 
 // A line: its bytes are the first `len` of the line buffer.
-#[derive(Drop)]
+#[derive(Clone, Copy)]
 pub struct LineAnswer {
     pub kind: LineKind,
     pub len: usize,
@@ -183,7 +185,7 @@ pub struct LineAnswer {
 }
 
 // What is held of a line so far.
-#[derive(Drop)]
+#[derive(Clone, Copy)]
 struct Held {
     len: usize,
     fits: bool,

@@ -1,6 +1,8 @@
 // The window of a scan (document 01, "Calls"): the eight smallest matching keys above the last one written, by their
 // places, and the record at a place written out. Inner: a place must hold a record. Every function is equal to its
 // definition in `definition/specs/Scan`.
+#![tactic(auto)]
+
 ghost use Rattle.std.specs.Prelude.{◌≡◌, ◌+◌, ◌≤◌, length, take};
 ghost use Rattle.definition.specs.Region.{record_of};
 ghost use Rattle.definition.specs.Scan;
@@ -13,7 +15,7 @@ use codec::{Checked, Key};
 use definition::{CapacityKind, Fault, MAX_VALUE_LEN, Order, SCAN_WINDOW};
 
 // Where a record stands, and its key's and its value's length.
-#[derive(Drop)]
+#[derive(Clone, Copy)]
 pub struct Place {
     pub at: usize,
     pub klen: usize,
@@ -21,14 +23,14 @@ pub struct Place {
 }
 
 // What a pass keeps: the first `len` places, in key order.
-#[derive(Drop)]
+#[derive(Clone, Copy)]
 pub struct ScanWindow {
     pub places: [Place; SCAN_WINDOW],
     pub len: usize,
 }
 
 // The last record written, if there is one.
-#[derive(Drop)]
+#[derive(Clone, Copy)]
 pub enum Last {
     At(Place),
     Nothing,
