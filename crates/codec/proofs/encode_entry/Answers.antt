@@ -27,10 +27,10 @@ pub copy_in-requires : goal.copy_in-requires
 copy_in-requires c = let k = fine_bounds c.check_op.ensures c.in_default.is in simp length-set (omega arith)
 
 pub copy_in-requires-2 : goal.copy_in-requires-2
-copy_in-requires-2 c = let k = fine_bounds c.check_op.ensures c.in_default.is in let l = c.copy_in.auto.0 in omega (arith, simp length-set at l)
+copy_in-requires-2 c = let k = fine_bounds c.check_op.ensures c.in_default.is in let l = c.copy_in.auto.dst in omega (arith, simp length-set at l)
 
 pub shape_of-out : goal.shape_of-out
-shape_of-out c = c.copy_in-2.auto.0 ∙ c.copy_in.auto.0 ∙ simp length-set
+shape_of-out c = c.copy_in-2.auto.dst ∙ c.copy_in.auto.dst ∙ simp length-set
 
 pub returns : goal.returns
 returns c = entry_made _ _ _ _ c.check_op.ensures c.in_default.is _ _ c.if-out-n.false c.copy_in.ensures c.copy_in-2.ensures

@@ -18,7 +18,7 @@ pub copy_in-requires : goal.copy_in-requires
 copy_in-requires c = simp length-set (omega arith)
 
 pub shape_of-out : goal.shape_of-out
-shape_of-out c = c.copy_in.auto.0 ∙ simp length-set
+shape_of-out c = c.copy_in.auto.dst ∙ simp length-set
 
 pub returns : goal.returns
 unfolding laid_if
