@@ -1,0 +1,16 @@
+use borrow.Author.Rules.{rules}
+use mathlib.Core.Path.{◌≡◌, refl}
+use Prim.Native.Nat.{◌-◌}
+use lib.ListN.{length}
+use Rattle.definition.specs.Program.{flat}
+use Rattle.definition.specs.Calls.{journal}
+use Rattle.oplist.proofs.Walks.{met_op, met_nothing}
+use Rattle.batch.specs.Forms.{Tested}
+use Rattle.batch.proofs.Walking.{tested_op, tested_on, Each, each_start, each_over, each_failed, each_on, entered, journal_turn, journal_over}
+use Rattle.batch.proofs.journal.Given as goal
+
+abbrev pub invariant-loop-kind : goal.invariant-loop-kind
+invariant-loop-kind l = (length l.region ≡ length l.initial.region) × Tested l.list l.at l.index × Each (journal flat) l.list l.initial.region l.script l.initial.step l.at l.index l.region l.step
+
+abbrev pub decreases-loop-kind : goal.decreases-loop-kind
+decreases-loop-kind l = length l.list - l.at
