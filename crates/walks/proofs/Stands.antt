@@ -1,7 +1,7 @@
 -- From a walk to a function's theorem, for a function that requires nothing: the walk is taken to the contract, and
 -- from its MIR to its routine.
 use seplogic.Ra.Ura.{Ura}
-use mir.Syntax.{Name, Fn}
+use mir.Syntax.{Callee, Fn}
 use base.Logic.{ent, via, fst∗}
 use prog.Model.{Model}
 use prog.Routine.{Env}
@@ -22,7 +22,7 @@ use denote.Triple.Walked.{Stays, AllGo, walk_of, walked, walk_Meets}
 
 module _ {M : Type 1} {𝓤 : Ura M} (𝓛 : Logic 𝓤) (𝓜 : Model 𝓤 𝓛.H) (𝓡 : Running 𝓤 𝓛.H 𝓜) (T : Ended)
     (hs : Stays T.signature.params T.kept)
-    (c : Clauses 𝓤 T) (env : Env) (own : Name) (f : Fn) where
+    (c : Clauses 𝓤 T) (env : Env) (own : Callee) (f : Fn) where
   open 𝓛 use {H}
 
   pub stands : Closed 𝓤 H (tables 𝓤 H 𝓜 𝓡 env).C (tables 𝓤 H 𝓜 𝓡 env).Λ own f
