@@ -1,0 +1,6 @@
+use Rattle.operations.proofs.Coming.{finish_done}
+use borrow.Author.Rules.{rules}
+use Rattle.operations.proofs.finish.Goals as goal
+
+pub returns : goal.returns
+returns c = finish_done c.args.answer c.why-failed.ensures c.finish.ensures c.replied.ensures
