@@ -1,0 +1,6 @@
+use Rattle.exports.proofs.CodecCrossing.{encodes}
+use borrow.Author.Rules.{rules}
+use Rattle.exports.proofs.codecs.takes_entry_write.Goals as goal
+
+pub returns : goal.returns
+returns c = encodes _ _ c.kind_of-kind.ensures c.codec_out.ensures c.encode_op.ensures

@@ -1,0 +1,6 @@
+use Rattle.exports.proofs.CodecCrossing.{writes}
+use borrow.Author.Rules.{rules}
+use Rattle.exports.proofs.codecs.takes_key_write.Goals as goal
+
+pub returns : goal.returns
+returns c = let w = c.write.ensures in writes c.codec_out.ensures w.0 w.1

@@ -1,0 +1,9 @@
+use Rattle.exports.proofs.Crossing.{truths}
+use Rattle.definition.specs.declared.State.{State}
+use Rattle.definition.specs.Public as P
+use mathlib.Core.Path.{ap, ◌∙◌}
+use borrow.Author.Rules.{rules}
+use Rattle.exports.proofs.takes_contains.Goals as goal
+
+pub returns : goal.returns
+returns c = truths c.truth_reply_out.ensures (c.contains.ensures ∙ ap (λ (st : State). P.contains c.args.region.now c.args.script.now st c.args.key.now) c.state_in-state.ensures)

@@ -1,0 +1,6 @@
+use Rattle.exports.proofs.Crossing.{replies}
+use borrow.Author.Rules.{rules}
+use Rattle.exports.proofs.takes_mount.Goals as goal
+
+pub returns : goal.returns
+returns c = replies c.reply_out.ensures c.mount.ensures
