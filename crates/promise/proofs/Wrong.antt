@@ -21,7 +21,7 @@ unfolding refusal_of get_refusal
 absent_is (P.ok (P.get_absent e)) = e
 absent_is (P.out r x y z) = absurd (none≢some r)
 
-put_in : {A B : Plain} {key value : Bytes} → Step A (put key value) (answered Ok) B → B key ≡ some value
+put_in : {A : Plain} {key value : Bytes} {B : Plain} → Step A (put key value) (answered Ok) B → B key ≡ some value
 unfolding after refusal_of refusal
 put_in {key = key} (P.ok P.put_ok) = pick_yes _ _ (eqs_refl key)
 put_in (P.out r x y z) = absurd (none≢some r)
