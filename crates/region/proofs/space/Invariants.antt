@@ -13,7 +13,7 @@ use Rattle.region.proofs.Walks.{met_used, met_takes, user_small, space_stop}
 use Rattle.region.proofs.space.Given as goal
 
 abbrev pub invariant-loop-klen : goal.invariant-loop-klen
-invariant-loop-klen l =     (l.at ≤ length l.region) × (l.takes ≤ l.at) × (Region.used (items l.region) ≡ l.at + Region.used (items (drop l.at l.region)))
+invariant-loop-klen l = (l.at ≤ length l.region) × (l.takes ≤ l.at) × (Region.used (items l.region) ≡ l.at + Region.used (items (drop l.at l.region)))
     × (Space.takes (items l.region) ≡ l.takes + Space.takes (items (drop l.at l.region)))
 
 abbrev pub decreases-loop-klen : goal.decreases-loop-klen

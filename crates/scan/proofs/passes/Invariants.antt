@@ -14,13 +14,13 @@ use Rattle.scan.proofs.Writing.{Writing, writing_on, Going, going_start, going_f
 use Rattle.scan.proofs.passes.Given as goal
 
 abbrev pub invariant-loop-i : goal.invariant-loop-i
-invariant-loop-i l =     Writing l.most (window_items l.region l.window) l.initial.out l.initial.count l.initial.length l.out l.count l.length l.i × (l.end ≡ Finished)
+invariant-loop-i l = Writing l.most (window_items l.region l.window) l.initial.out l.initial.count l.initial.length l.out l.count l.length l.i × (l.end ≡ Finished)
 
 abbrev pub decreases-loop-i : goal.decreases-loop-i
 decreases-loop-i l = l.window.len - l.i
 
 abbrev pub invariant-passes : goal.invariant-passes
-invariant-passes l =     Going rising l.region l.script l.prefix l.most l.initial.out l.initial.step l.out l.step l.count l.length l.last × (l.end ≡ Finished)
+invariant-passes l = Going rising l.region l.script l.prefix l.most l.initial.out l.initial.step l.out l.step l.count l.length l.last × (l.end ≡ Finished)
 
 abbrev pub decreases-passes : goal.decreases-passes
-decreases-passes l =     lib.ListN.length (above rising (last_key l.region l.last) (sorted rising l.prefix (items l.region)))
+decreases-passes l = lib.ListN.length (above rising (last_key l.region l.last) (sorted rising l.prefix (items l.region)))
