@@ -1,0 +1,12 @@
+use borrow.Author.Rules.{rules}
+use Prim.Native.Nat.{◌-◌}
+use mathlib.Core.Path.{refl}
+use lib.ListN.{length}
+use Rattle.slices.proofs.Copying.{Copied, copied_none, copied_more, copied_written}
+use Rattle.slices.proofs.copy_in.Given as goal
+
+abbrev pub invariant-loop-i : goal.invariant-loop-i
+invariant-loop-i l = Copied l.initial.dst l.src l.at l.i l.dst
+
+abbrev pub decreases-loop-i : goal.decreases-loop-i
+decreases-loop-i l = length l.src - l.i
