@@ -7,15 +7,15 @@ use native.Mathlib.Numerals.{add-one}
 use native.Mathlib.Omega.{arith}
 use lib.Dec.{T, eqb, ltb}
 use borrow.Author.Tests.{eq-eqb, ne_eqb, le-leb, lt-leb, lt-ltb, le-ltb}
-use lib.ListN.{length, get_or, take, drop, drop_of_length-le, length-drop}
-use lib.Seq.{drop-cons, take_all, length-take-le}
+use lib.ListN.{length, get_or, take, drop, drop_of_length-le}
+use lib.Seq.{drop-cons, length-take-le}
 use Rattle.definition.specs.Tools.{Bytes, pick}
 use Rattle.definition.proofs.Choices.{pick_yes, pick_no}
-use Rattle.text.specs.Words.{up_to, Finds, spaces, Skips, NextWord, InBuffer, Fills}
-use Rattle.text.specs.Numerals.{among, numeral_from, numeral_of, digit_of, Small, joined, pair_of}
+use Rattle.text.specs.Words.{up_to, Finds, spaces, Skips, InBuffer, Fills}
+use Rattle.text.specs.Numerals.{among, numeral_from, numeral_of, digit_of, joined, pair_of}
 use Rattle.slices.specs.Written.{written}
 use Rattle.slices.proofs.Copying.{take_written}
-use Rattle.text.specs.Lines.{holds_all, Holds, Ended, Last, LineRead}
+use Rattle.text.specs.Lines.{holds_all, Holds, Ended, Last}
 use Rattle.text.specs.declared.Filled.{Filled}
 use Rattle.text.specs.declared.Filled.TheVariants.{To}
 use Rattle.text.specs.declared.Held.{Held}

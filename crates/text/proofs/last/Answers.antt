@@ -8,6 +8,6 @@ returns-then-held-eq0 c = last_none _ c.if-held.true c.if-held-eq0.true
 pub returns : goal.returns
 returns c =
     elim c.if-held.branch [
-      then-held+else-held-eq0 w ↦ last_whole c.ended.ensures w.if-held.true w.if-held-eq0.false
-    | else-held w ↦ last_long c.ended.ensures w.if-held.false
+      | then-held+else-held-eq0 w ↦ last_whole c.ended.ensures w.if-held.true w.if-held-eq0.false
+      | else-held w ↦ last_long c.ended.ensures w.if-held.false
     ]
