@@ -1,0 +1,14 @@
+use borrow.Author.Rules.{rules}
+use Rattle.codec.proofs.Laws.{order_out, order_less, order_greater, order_next, order_ends, order_same}
+use Prim.Native.Nat.{◌≤◌, ◌-◌, zero-le}
+use mathlib.Core.Path.{◌≡◌, refl, ◌∙◌}
+use native.Mathlib.Omega.{arith}
+use lib.ListN.{length, drop}
+use Rattle.definition.specs.Codec.{order}
+use Rattle.codec.proofs.Key.order.Given as goal
+
+abbrev pub invariant-loop-i : goal.invariant-loop-i
+invariant-loop-i l = (l.i ≤ length l.a) × (order (drop l.i l.a) (drop l.i l.b) ≡ order l.a l.b)
+
+abbrev pub decreases-loop-i : goal.decreases-loop-i
+decreases-loop-i l = length l.a - l.i

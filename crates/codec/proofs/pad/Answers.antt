@@ -1,0 +1,7 @@
+use Rattle.codec.proofs.Laws.{pad_is}
+use mathlib.Core.Path.{◌∙◌}
+use borrow.Author.Rules.{rules}
+use Rattle.codec.proofs.pad.Goals as goal
+
+pub returns : goal.returns
+returns c = c.copy_in.ensures ∙ pad_is _

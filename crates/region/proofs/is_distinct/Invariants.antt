@@ -1,0 +1,16 @@
+use borrow.Author.Rules.{rules}
+use mathlib.Core.Path.{◌≡◌, sym}
+use Prim.Native.Nat.{ℕ, ◌-◌, ◌≤◌, ◌<◌}
+use native.Mathlib.Omega.{arith}
+use borrow.Author.Count.{below_none, below_more}
+use borrow.Author.Tests.{not-true, not-false}
+use Rattle.definition.specs.Region.{items}
+use Rattle.region.specs.Classes.{NewIn, back}
+use Rattle.region.proofs.Classes.{every_class}
+use Rattle.region.proofs.is_distinct.Given as goal
+
+abbrev pub invariant-loop-class : goal.invariant-loop-class
+invariant-loop-class l = (l.class ≤ l.classes) × ((k : ℕ) → k < l.class → NewIn k l.classes (back (items l.region)))
+
+abbrev pub decreases-loop-class : goal.decreases-loop-class
+decreases-loop-class l = l.classes - l.class
