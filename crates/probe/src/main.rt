@@ -152,15 +152,13 @@ fn unhex(word: &[u8], out: &mut [u8]) -> Filled
     if out.len() < count {
         return Filled::Unread;
     }
-    let mut i: usize = 0;
-    while i < count {
+    for i in 0..count {
         let from = i * 2;
         let to = from + 2;
         let Hex::Value(byte) = text::read_hex(&word[from..to]) else {
             return Filled::Unread;
         };
         out[i] = byte;
-        i += 1;
     }
     Filled::To(count)
 }
