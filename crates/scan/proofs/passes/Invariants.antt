@@ -1,0 +1,26 @@
+use borrow.Author.Rules.{rules}
+use borrow.Author.Tests.{not-true, not-false}
+use mathlib.Core.Path.{◌≡◌, refl, sym, ◌∙◌}
+use Prim.Native.Nat.{◌-◌}
+use native.Mathlib.Omega.{arith}
+use lib.ListN.{length}
+use Rattle.definition.specs.Region.{items}
+use Rattle.definition.specs.Scan.{rising}
+use Rattle.definition.specs.declared.ScanEnd.TheVariants.{Finished}
+use Rattle.windows.specs.Forms.{last_key, window_items}
+use Rattle.definition.proofs.Windows.{rising_strict, sorted, above}
+use Rattle.windows.proofs.Windows.{record_size, window_length, window_held, window_at}
+use Rattle.scan.proofs.Writing.{Writing, writing_on, Going, going_start, going_failed, going_stalled, going_writes, going_full, going_stops, going_finished, going_less, going_on}
+use Rattle.scan.proofs.passes.Given as goal
+
+abbrev pub invariant-loop-i : goal.invariant-loop-i
+invariant-loop-i l =     Writing l.most (window_items l.region l.window) l.initial.out l.initial.count l.initial.length l.out l.count l.length l.i × (l.end ≡ Finished)
+
+abbrev pub decreases-loop-i : goal.decreases-loop-i
+decreases-loop-i l = l.window.len - l.i
+
+abbrev pub invariant-passes : goal.invariant-passes
+invariant-passes l =     Going rising l.region l.script l.prefix l.most l.initial.out l.initial.step l.out l.step l.count l.length l.last × (l.end ≡ Finished)
+
+abbrev pub decreases-passes : goal.decreases-passes
+decreases-passes l =     lib.ListN.length (above rising (last_key l.region l.last) (sorted rising l.prefix (items l.region)))
