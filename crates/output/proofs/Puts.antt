@@ -1,15 +1,12 @@
 -- The laws of the bytes that wait: one byte more, the loops over bytes, and a number's digits.
-use mathlib.Core.Path.{◌≡◌, refl, sym, ap, ◌∙◌}
-use mathlib.Core.List.{[], ◌∷◌, ◌++◌}
-use Prim.Native.Nat.{ℕ, zero, suc, ◌+◌, ◌-◌, ◌/◌, ◌%◌, ◌^◌, ◌≤◌, ◌<◌}
-use native.Mathlib.Nat.{pow-suc, pow-le-pow_right}
-use native.Mathlib.Numerals.{add-one, sub-one}
-use native.Mathlib.Omega.{arith}
+use Rattle.std.proofs.Common.{◌≡◌, refl, sym, ap, ◌∙◌, [], ◌∷◌, ◌++◌, ℕ, zero, suc, ◌+◌, ◌-◌, ◌/◌, ◌%◌, ◌^◌, ◌≤◌, ◌<◌, ltb, length, get_or, drop, arith, add-one, sub-one}
+use Rattle.std.proofs.Math.Nat.{pow-suc}
+use Rattle.std.proofs.Math.ListN.{set, drop_of_length-le}
+use Rattle.std.proofs.Math.Seq.{drop-cons, append_snoc}
+use Rattle.std.proofs.lemmas.List.{drop-set}
 use borrow.Author.Tests.{lt-ltb, le-ltb}
-use lib.ListN.{length, get_or, drop, set, drop_of_length-le}
-use lib.Seq.{drop-cons}
-use Rattle.io.specs.Digits.{hex_digit_ascii, last_digits, IsDigitCount}
-use Rattle.definition.specs.Tools.{Bytes}
+use Rattle.output.specs.Digits.{hex_digit_ascii, last_digits}
+use Rattle.definition.specs.Tools.{Bytes, pick}
 use Rattle.definition.proofs.Choices.{pick_yes, pick_no}
 use Rattle.output.specs.Waiting.{Waiting, waits, add_byte, add_bytes, decimal_in, decimal_of, hex_of}
 
@@ -56,39 +53,60 @@ module _ {made : Waiting} (w : Waiting) (s : Bytes) {i : ℕ} where
 
 -- ---- a number's digits
 
--- two digits or more are the fewest only of a number from 10 on, and then those above the last are the fewest of the
--- tenth
-module _ (k n : ℕ) (f : IsDigitCount 10 1 n (suc (suc k))) where
-  above : 10 ^ suc k ≤ n
-  above = rw sub-one at (f.2 (omega arith))
+-- any bound will do on how many stand before the last
+bounded : (a b n : ℕ) → n ≤ a → n ≤ b → decimal_in a n ≡ decimal_in b n
+unfolding decimal_in pick
+bounded zero zero n p q = refl
+bounded zero (suc b) zero p q = refl
+bounded zero (suc b) (suc n) p q = absurd (omega arith)
+bounded (suc a) zero zero p q = refl
+bounded (suc a) zero (suc n) p q = absurd (omega arith)
+bounded (suc a) (suc b) zero p q = refl
+bounded (suc a) (suc b) (suc n) p q =
+    ap (λ (x : Bytes). pick (ltb (suc n) 10) [] x ++ (hex_digit_ascii (suc n % 10) ∷ []))
+    (bounded a b (suc n / 10) (omega arith) (omega arith))
 
-  from_ten : 10 ≤ n
-  from_ten =
-      let a = above in
-      let p = pow-suc 10 k in
-      let q : 1 ≤ 10 ^ k = pow-le-pow_right {n = 10} (omega arith) {i = 0} {j = k} (omega arith) in
-      omega arith
+-- a number below ten is its one digit; another's last stands behind those of its tenth
+one_digit : (n : ℕ) → n < 10 → decimal_of n ≡ hex_digit_ascii (n % 10) ∷ []
+unfolding decimal_of decimal_in
+one_digit zero h = refl
+one_digit (suc n) h =
+    ap (λ (x : Bytes). x ++ (hex_digit_ascii (suc n % 10) ∷ [])) (pick_yes _ _ (lt-ltb _ _ h))
 
-  fewer : IsDigitCount 10 1 (n / 10) (suc k)
-  fewer =
-      let p = pow-suc 10 (suc k) in
-      let r = pow-suc 10 k in
-      let a = above in
-      let b = f.1 in
-      (omega arith, omega arith, λ _. rw sub-one (omega arith))
+more_digits : (n : ℕ) → 10 ≤ n → decimal_of n ≡ decimal_of (n / 10) ++ (hex_digit_ascii (n % 10) ∷ [])
+unfolding decimal_of decimal_in
+more_digits zero h = absurd (omega arith)
+more_digits (suc n) h =
+    ap (λ (x : Bytes). x ++ (hex_digit_ascii (suc n % 10) ∷ []))
+    (pick_no _ _ (le-ltb _ _ h) ∙ bounded n (suc n / 10) (suc n / 10) (omega arith) (omega arith))
 
-digits_in : (k most n : ℕ) → n ≤ most → IsDigitCount 10 1 n (suc k) → last_digits 10 (suc k) n ≡ decimal_in most n
-unfolding decimal_in
-digits_in zero zero n m f = refl
-digits_in zero (suc most) n m f =
-    let h : n < 10 = f.1 in
-    ap (λ (x : Bytes). x ++ (hex_digit_ascii (n % 10) ∷ [])) (sym (pick_yes _ _ (lt-ltb _ _ h)))
-digits_in (suc k) zero n m f = let h = from_ten k n f in absurd (omega arith)
-digits_in (suc k) (suc most) n m f =
-    let h = from_ten k n f in
-    ap (λ (x : Bytes). x ++ (hex_digit_ascii (n % 10) ∷ [])) (digits_in k most (n / 10) (omega arith) (fewer k n f) ∙ sym (pick_no _ _ (le-ltb _ _ h)))
+-- the loop over digits: those of the rest stand before those at the end of the text, from `at` on
+module _ (text : Bytes) (at g : ℕ) where
+  in_front : 0 < at → at ≤ length text → drop (at - 1) (set text (at - 1) g) ≡ g ∷ drop at text
+  in_front p q =
+      let e : at - 1 + 1 ≡ at = omega arith in
+      drop-set text (at - 1) g (omega arith) ∙ ap (λ (x : ℕ). g ∷ drop x text) e
 
-pub digits_are : (k n : ℕ) → IsDigitCount 10 1 n k → last_digits 10 k n ≡ decimal_of n
-unfolding decimal_of
-digits_are zero n f = absurd (omega arith)
-digits_are (suc k) n f = digits_in k n n (omega arith) f
+  -- where the tenth is 0 it was the last digit; else the tenth's are left
+  module _ (n rest : ℕ) (e : decimal_of n ≡ decimal_of rest ++ drop at text) (p : 0 < at) (q : at ≤ length text) (f : g ≡ hex_digit_ascii (rest % 10)) where
+    pub digits_last : rest / 10 ≡ 0 → drop (at - 1) (set text (at - 1) g) ≡ decimal_of n
+    digits_last z =
+        in_front p q ∙ ap (λ (x : ℕ). x ∷ drop at text) f
+        ∙ sym (e ∙ ap (λ (x : Bytes). x ++ drop at text) (one_digit rest (omega arith)))
+
+    pub digits_more : 0 < rest / 10 → decimal_of n ≡ decimal_of (rest / 10) ++ drop (at - 1) (set text (at - 1) g)
+    digits_more z =
+        e ∙ ap (λ (x : Bytes). x ++ drop at text) (more_digits rest (omega arith))
+        ∙ append_snoc (decimal_of (rest / 10)) (hex_digit_ascii (rest % 10)) (drop at text)
+        ∙ ap (λ (x : Bytes). decimal_of (rest / 10) ++ x) (ap (λ (x : ℕ). x ∷ drop at text) (sym f) ∙ sym (in_front p q))
+
+-- a tenth has room in one digit less
+pub room : (rest at : ℕ) → 0 < at → rest < 10 ^ at → rest / 10 < 10 ^ (at - 1)
+room rest zero p h = absurd (omega arith)
+room rest (suc at) p h = let e = pow-suc 10 at in rw sub-one (omega arith)
+
+-- who has two digits or more has room for two
+pub another : (rest at : ℕ) → rest < 10 ^ at → 0 < rest / 10 → 0 < at - 1
+another rest zero h z = absurd (omega arith)
+another rest (suc zero) h z = absurd (omega arith)
+another rest (suc (suc at)) h z = omega arith

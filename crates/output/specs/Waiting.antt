@@ -1,6 +1,6 @@
 -- Bytes that wait in a buffer to be written. Where one more has no room they are written all, and it with them.
 use Rattle.std.specs.Prelude.{[], ◌∷◌, ◌++◌, ℕ, zero, suc, ◌+◌, ◌/◌, ◌%◌, ltb, length, set}
-use Rattle.io.specs.Digits.{hex_digit_ascii, last_digits}
+use Rattle.output.specs.Digits.{hex_digit_ascii, last_digits}
 use Rattle.definition.specs.Tools.{Bytes, pick}
 
 -- a buffer, of which the first `used` bytes wait

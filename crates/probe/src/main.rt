@@ -11,6 +11,7 @@ ghost use Rattle.probe.specs.Bench.{Kept};
 use definition::{Space, Step};
 use items::{FetchAnswer, ItemAnswer, NextAnswer};
 use region::{Next, Spot};
+use std::io::Read;
 use text::{Filled, Hex, LineKind, Numeral, Unread};
 
 // The largest region of a case, and the largest script: a line holds no more of them.
@@ -99,41 +100,25 @@ fn first_step() -> Step {
 // ---- reading
 
 fn command_of(name: &[u8]) -> Command {
-    if check::same(name, b"region") {
-        return Command::Region;
+    match name {
+        b"region" => Command::Region,
+        b"script" => Command::Script,
+        b"good" => Command::Good,
+        b"bytes" => Command::Bytes,
+        b"used" => Command::Used,
+        _ => item_command_of(name),
     }
-    if check::same(name, b"script") {
-        return Command::Script;
-    }
-    if check::same(name, b"good") {
-        return Command::Good;
-    }
-    if check::same(name, b"bytes") {
-        return Command::Bytes;
-    }
-    if check::same(name, b"used") {
-        return Command::Used;
-    }
-    item_command_of(name)
 }
 
 fn item_command_of(name: &[u8]) -> Command {
-    if check::same(name, b"store") {
-        return Command::Store;
+    match name {
+        b"store" => Command::Store,
+        b"remove" => Command::Remove,
+        b"fetch" => Command::Fetch,
+        b"open" => Command::Open,
+        b"next" => Command::Next,
+        _ => Command::Unknown,
     }
-    if check::same(name, b"remove") {
-        return Command::Remove;
-    }
-    if check::same(name, b"fetch") {
-        return Command::Fetch;
-    }
-    if check::same(name, b"open") {
-        return Command::Open;
-    }
-    if check::same(name, b"next") {
-        return Command::Next;
-    }
-    Command::Unknown
 }
 
 // Whether a command may have these words behind it, of which an empty one is not there.
@@ -157,7 +142,7 @@ fn has_words(command: Command, first: &[u8], second: &[u8], third: &[u8]) -> boo
 fn unhex(word: &[u8], out: &mut [u8]) -> Filled
     ensures { Fills out.new result }
 {
-    if check::same(word, b"-") {
+    if slices::same(word, b"-") {
         return Filled::To(0);
     }
     if word.len() % 2 != 0 {
@@ -167,71 +152,67 @@ fn unhex(word: &[u8], out: &mut [u8]) -> Filled
     if out.len() < count {
         return Filled::Unread;
     }
-    let mut i: usize = 0;
-    while i < count {
+    for i in 0..count {
         let from = i * 2;
         let to = from + 2;
         let Hex::Value(byte) = text::read_hex(&word[from..to]) else {
             return Filled::Unread;
         };
         out[i] = byte;
-        i += 1;
     }
     Filled::To(count)
 }
 
 // ---- writing
 
-fn bad_line(out: &mut [u8], run: Run) -> Run {
-    let waiting = output::put(out, run.waiting, b"bad line\n");
+fn bad_line(rt: &impl Print, out: &mut [u8], run: Run) -> Run {
+    let waiting = output::put(rt, out, run.waiting, b"bad line\n");
     run.waits(waiting)
 }
 
-fn put_bytes(out: &mut [u8], waiting: usize, bytes: &[u8]) -> usize {
+fn put_bytes(rt: &impl Print, out: &mut [u8], waiting: usize, bytes: &[u8]) -> usize {
     if bytes.len() == 0 {
-        return output::put(out, waiting, b"-");
+        return output::put(rt, out, waiting, b"-");
     }
-    output::put_hex(out, waiting, bytes)
+    output::put_hex(rt, out, waiting, bytes)
 }
 
-fn put_truth(out: &mut [u8], waiting: usize, truth: bool) -> usize {
+fn put_truth(rt: &impl Print, out: &mut [u8], waiting: usize, truth: bool) -> usize {
     if truth {
-        return output::put(out, waiting, b"yes");
+        return output::put(rt, out, waiting, b"yes");
     }
-    output::put(out, waiting, b"no")
+    output::put(rt, out, waiting, b"no")
 }
 
-fn put_refused(out: &mut [u8], waiting: usize, fault: definition::Fault) -> usize {
-    let waiting = output::put(out, waiting, b"refused ");
-    output::put_decimal(out, waiting, numbers::number(fault) as u64)
+fn put_refused(rt: &impl Print, out: &mut [u8], waiting: usize, fault: definition::Fault) -> usize {
+    let waiting = output::put(rt, out, waiting, b"refused ");
+    output::put_decimal(rt, out, waiting, numbers::number(fault) as u64)
 }
 
 // How an item call's line ends.
-fn put_step(out: &mut [u8], waiting: usize, step: Step) -> usize {
-    let waiting = output::put(out, waiting, b" calls ");
-    let waiting = output::put_decimal(out, waiting, step.calls);
-    let waiting = output::put(out, waiting, b" at ");
-    let waiting = output::put_decimal(out, waiting, step.at as u64);
-    let waiting = output::put(out, waiting, b" cut ");
-    let waiting = put_truth(out, waiting, step.cut);
-    output::put(out, waiting, b"\n")
+fn put_step(rt: &impl Print, out: &mut [u8], waiting: usize, step: Step) -> usize {
+    let waiting = output::put(rt, out, waiting, b" calls ");
+    let waiting = output::put_decimal(rt, out, waiting, step.calls);
+    let waiting = output::put(rt, out, waiting, b" at ");
+    let waiting = output::put_decimal(rt, out, waiting, step.at as u64);
+    let waiting = output::put(rt, out, waiting, b" cut ");
+    let waiting = put_truth(rt, out, waiting, step.cut);
+    output::put(rt, out, waiting, b"\n")
 }
 
 // ---- a region and a script
 
 fn erase(region: &mut [u8]) {
-    let mut i: usize = 0;
-    while i < region.len() {
-        region[i] = 255;
-        i += 1;
+    for byte in region.iter_mut() {
+        *byte = 255;
     }
 }
 
 // A bad line, with the lengths as they were.
-fn bad_bench(out: &mut [u8], bench: Bench) -> Bench
+fn bad_bench(rt: &impl Print, out: &mut [u8], bench: Bench) -> Bench
     ensures { (result.region ≡ bench.region) × (result.script ≡ bench.script) }
 {
-    let run = bad_line(out, bench.run);
+    let run = bad_line(rt, out, bench.run);
     Bench {
         region: bench.region,
         script: bench.script,
@@ -240,23 +221,30 @@ fn bad_bench(out: &mut [u8], bench: Bench) -> Bench
 }
 
 // A region of so many bytes: the given ones, and then 0xFF. The script is empty then.
-fn set_region(region: &mut [u8], out: &mut [u8], size: &[u8], given: &[u8], bench: Bench) -> Bench
+fn set_region(
+    rt: &impl Print,
+    region: &mut [u8],
+    out: &mut [u8],
+    size: &[u8],
+    given: &[u8],
+    bench: Bench,
+) -> Bench
     requires { bench.region ≤ length region.old }
     ensures { (result.region ≤ length region.old) × (result.script ≤ bench.script) }
 {
     let Numeral::Value(size) = text::read_numeral(size) else {
-        return bad_bench(out, bench);
+        return bad_bench(rt, out, bench);
     };
     let size = size as usize;
     if region.len() < size {
-        return bad_bench(out, bench);
+        return bad_bench(rt, out, bench);
     }
     let mut bytes = [0u8; REGION_SIZE];
     let Filled::To(count) = unhex(given, &mut bytes) else {
-        return bad_bench(out, bench);
+        return bad_bench(rt, out, bench);
     };
     if size < count {
-        return bad_bench(out, bench);
+        return bad_bench(rt, out, bench);
     }
     erase(region);
     slices::copy_in(region, 0, &bytes[..count]);
@@ -269,16 +257,22 @@ fn set_region(region: &mut [u8], out: &mut [u8], size: &[u8], given: &[u8], benc
 }
 
 // A new script: the cut is lifted, and the count of calls starts again.
-fn set_script(script: &mut [u8], out: &mut [u8], given: &[u8], bench: Bench) -> Bench
+fn set_script(
+    rt: &impl Print,
+    script: &mut [u8],
+    out: &mut [u8],
+    given: &[u8],
+    bench: Bench,
+) -> Bench
     requires { bench.script ≤ length script.old }
     ensures { (result.region ≡ bench.region) × (result.script ≤ length script.old) }
 {
     let mut bytes = [0u8; SCRIPT_SIZE];
     let Filled::To(count) = unhex(given, &mut bytes) else {
-        return bad_bench(out, bench);
+        return bad_bench(rt, out, bench);
     };
     if script.len() < count {
-        return bad_bench(out, bench);
+        return bad_bench(rt, out, bench);
     }
     slices::copy_in(script, 0, &bytes[..count]);
     let run = bench.run;
@@ -306,48 +300,56 @@ fn written_end(region: &[u8]) -> usize
     end
 }
 
-fn say_good(region: &[u8], out: &mut [u8], run: Run) -> Run {
-    let waiting = output::put(out, run.waiting, b"good ");
-    let waiting = put_truth(out, waiting, region::is_good(region));
-    let waiting = output::put(out, waiting, b"\n");
+fn say_good(rt: &impl Print, region: &[u8], out: &mut [u8], run: Run) -> Run {
+    let waiting = output::put(rt, out, run.waiting, b"good ");
+    let waiting = put_truth(rt, out, waiting, region::is_good(region));
+    let waiting = output::put(rt, out, waiting, b"\n");
     run.waits(waiting)
 }
 
-fn say_bytes(region: &[u8], out: &mut [u8], run: Run) -> Run {
-    let waiting = output::put(out, run.waiting, b"bytes ");
+fn say_bytes(rt: &impl Print, region: &[u8], out: &mut [u8], run: Run) -> Run {
+    let waiting = output::put(rt, out, run.waiting, b"bytes ");
     let end = written_end(region);
-    let waiting = put_bytes(out, waiting, &region[..end]);
-    let waiting = output::put(out, waiting, b"\n");
+    let waiting = put_bytes(rt, out, waiting, &region[..end]);
+    let waiting = output::put(rt, out, waiting, b"\n");
     run.waits(waiting)
 }
 
-fn say_used(region: &[u8], out: &mut [u8], run: Run) -> Run {
-    let waiting = output::put(out, run.waiting, b"used ");
-    let waiting = output::put_decimal(out, waiting, region::used(region) as u64);
-    let waiting = output::put(out, waiting, b"\n");
+fn say_used(rt: &impl Print, region: &[u8], out: &mut [u8], run: Run) -> Run {
+    let waiting = output::put(rt, out, run.waiting, b"used ");
+    let waiting = output::put_decimal(rt, out, waiting, region::used(region) as u64);
+    let waiting = output::put(rt, out, waiting, b"\n");
     run.waits(waiting)
 }
 
 // ---- item calls
 
 // A store's, a removal's or an opening's answer.
-fn say_item(out: &mut [u8], name: &[u8], answer: ItemAnswer, place: usize, run: Run) -> Run {
-    let waiting = output::put(out, run.waiting, name);
+fn say_item(
+    rt: &impl Print,
+    out: &mut [u8],
+    name: &[u8],
+    answer: ItemAnswer,
+    place: usize,
+    run: Run,
+) -> Run {
+    let waiting = output::put(rt, out, run.waiting, name);
     match answer {
         ItemAnswer::Done(step) => {
-            let waiting = output::put(out, waiting, b"ok");
-            let waiting = put_step(out, waiting, step);
+            let waiting = output::put(rt, out, waiting, b"ok");
+            let waiting = put_step(rt, out, waiting, step);
             run.steps(step, place).waits(waiting)
         }
         ItemAnswer::Failed(fault, step) => {
-            let waiting = put_refused(out, waiting, fault);
-            let waiting = put_step(out, waiting, step);
+            let waiting = put_refused(rt, out, waiting, fault);
+            let waiting = put_step(rt, out, waiting, step);
             run.steps(step, run.place).waits(waiting)
         }
     }
 }
 
 fn store_item(
+    rt: &impl Print,
     region: &mut [u8],
     script: &[u8],
     out: &mut [u8],
@@ -358,13 +360,14 @@ fn store_item(
     requires { good region.old ≡ true }
 {
     if !region::is_allowed(key.len(), value.len()) {
-        return bad_line(out, run);
+        return bad_line(rt, out, run);
     }
     let answer = items::store(region, script, key, value, run.step);
-    say_item(out, b"store ", answer, run.place, run)
+    say_item(rt, out, b"store ", answer, run.place, run)
 }
 
 fn store_line(
+    rt: &impl Print,
     region: &mut [u8],
     script: &[u8],
     out: &mut [u8],
@@ -376,13 +379,14 @@ fn store_line(
 {
     let mut key_bytes = [0u8; 96];
     let Filled::To(key_len) = unhex(key, &mut key_bytes) else {
-        return bad_line(out, run);
+        return bad_line(rt, out, run);
     };
     let mut value_bytes = [0u8; 481];
     let Filled::To(value_len) = unhex(value, &mut value_bytes) else {
-        return bad_line(out, run);
+        return bad_line(rt, out, run);
     };
     store_item(
+        rt,
         region,
         script,
         out,
@@ -392,75 +396,108 @@ fn store_line(
     )
 }
 
-fn remove_line(region: &mut [u8], script: &[u8], out: &mut [u8], key: &[u8], run: Run) -> Run
+fn remove_line(
+    rt: &impl Print,
+    region: &mut [u8],
+    script: &[u8],
+    out: &mut [u8],
+    key: &[u8],
+    run: Run,
+) -> Run
     requires { good region.old ≡ true }
 {
     let mut key_bytes = [0u8; 96];
     let Filled::To(key_len) = unhex(key, &mut key_bytes) else {
-        return bad_line(out, run);
+        return bad_line(rt, out, run);
     };
     let answer = items::remove(region, script, &key_bytes[..key_len], run.step);
-    say_item(out, b"remove ", answer, run.place, run)
+    say_item(rt, out, b"remove ", answer, run.place, run)
 }
 
 // What a fetch found, where it stands.
-fn put_found(region: &[u8], out: &mut [u8], waiting: usize, spot: Spot) -> usize
+fn put_found(rt: &impl Print, region: &[u8], out: &mut [u8], waiting: usize, spot: Spot) -> usize
     requires { InSpot region.now spot }
 {
     let Spot::At(at, len) = spot else {
-        return output::put(out, waiting, b"absent");
+        return output::put(rt, out, waiting, b"absent");
     };
-    let waiting = output::put(out, waiting, b"found ");
-    put_bytes(out, waiting, slices::part(region, at, len))
+    let waiting = output::put(rt, out, waiting, b"found ");
+    put_bytes(rt, out, waiting, slices::part(region, at, len))
 }
 
-fn put_fetched(region: &[u8], script: &[u8], out: &mut [u8], key: &[u8], run: Run) -> Run
+fn put_fetched(
+    rt: &impl Print,
+    region: &[u8],
+    script: &[u8],
+    out: &mut [u8],
+    key: &[u8],
+    run: Run,
+) -> Run
     requires { good region.now ≡ true }
 {
     let place = run.place;
-    let waiting = output::put(out, run.waiting, b"fetch ");
+    let waiting = output::put(rt, out, run.waiting, b"fetch ");
     match items::fetch(region, script, key, run.step) {
         FetchAnswer::Got(spot, step) => {
-            let waiting = put_found(region, out, waiting, spot);
-            let waiting = put_step(out, waiting, step);
+            let waiting = put_found(rt, region, out, waiting, spot);
+            let waiting = put_step(rt, out, waiting, step);
             run.steps(step, place).waits(waiting)
         }
         FetchAnswer::Missed(fault, step) => {
-            let waiting = put_refused(out, waiting, fault);
-            let waiting = put_step(out, waiting, step);
+            let waiting = put_refused(rt, out, waiting, fault);
+            let waiting = put_step(rt, out, waiting, step);
             run.steps(step, place).waits(waiting)
         }
     }
 }
 
-fn fetch_line(region: &[u8], script: &[u8], out: &mut [u8], key: &[u8], run: Run) -> Run
+fn fetch_line(
+    rt: &impl Print,
+    region: &[u8],
+    script: &[u8],
+    out: &mut [u8],
+    key: &[u8],
+    run: Run,
+) -> Run
     requires { good region.now ≡ true }
 {
     let mut key_bytes = [0u8; 96];
     let Filled::To(key_len) = unhex(key, &mut key_bytes) else {
-        return bad_line(out, run);
+        return bad_line(rt, out, run);
     };
-    put_fetched(region, script, out, &key_bytes[..key_len], run)
+    put_fetched(rt, region, script, out, &key_bytes[..key_len], run)
 }
 
-fn open_line(region: &[u8], script: &[u8], out: &mut [u8], run: Run) -> Run
+fn open_line(rt: &impl Print, region: &[u8], script: &[u8], out: &mut [u8], run: Run) -> Run
     requires { good region.now ≡ true }
 {
     let answer = items::iterate_open(region, script, run.step);
-    say_item(out, b"open ", answer, 0, run)
+    say_item(rt, out, b"open ", answer, 0, run)
 }
 
 // What an iteration met at its place.
-fn put_met(region: &[u8], out: &mut [u8], waiting: usize, place: usize, met: Next) -> usize
+fn put_met(
+    rt: &impl Print,
+    region: &[u8],
+    out: &mut [u8],
+    waiting: usize,
+    place: usize,
+    met: Next,
+) -> usize
     requires { Visit region.now place met }
 {
     let Next::Item(klen, vlen, _) = met else {
-        return output::put(out, waiting, b"none");
+        return output::put(rt, out, waiting, b"none");
     };
-    let waiting = output::put(out, waiting, b"item ");
-    let waiting = put_bytes(out, waiting, region::key_at(region, place, klen));
-    let waiting = output::put(out, waiting, b" ");
-    put_bytes(out, waiting, region::value_at(region, place, klen, vlen))
+    let waiting = output::put(rt, out, waiting, b"item ");
+    let waiting = put_bytes(rt, out, waiting, region::key_at(region, place, klen));
+    let waiting = output::put(rt, out, waiting, b" ");
+    put_bytes(
+        rt,
+        out,
+        waiting,
+        region::value_at(region, place, klen, vlen),
+    )
 }
 
 // Where an iteration goes on: an item moves it.
@@ -471,18 +508,18 @@ fn place_after(met: Next, place: usize) -> usize {
     }
 }
 
-fn next_line(region: &[u8], script: &[u8], out: &mut [u8], run: Run) -> Run {
+fn next_line(rt: &impl Print, region: &[u8], script: &[u8], out: &mut [u8], run: Run) -> Run {
     let place = run.place;
-    let waiting = output::put(out, run.waiting, b"next ");
+    let waiting = output::put(rt, out, run.waiting, b"next ");
     match items::iterate_next(region, script, place, run.step) {
         NextAnswer::Met(met, step) => {
-            let waiting = put_met(region, out, waiting, place, met);
-            let waiting = put_step(out, waiting, step);
+            let waiting = put_met(rt, region, out, waiting, place, met);
+            let waiting = put_step(rt, out, waiting, step);
             run.steps(step, place_after(met, place)).waits(waiting)
         }
         NextAnswer::Unmet(fault, step) => {
-            let waiting = put_refused(out, waiting, fault);
-            let waiting = put_step(out, waiting, step);
+            let waiting = put_refused(rt, out, waiting, fault);
+            let waiting = put_step(rt, out, waiting, step);
             run.steps(step, place).waits(waiting)
         }
     }
@@ -492,6 +529,7 @@ fn next_line(region: &[u8], script: &[u8], out: &mut [u8], run: Run) -> Run {
 
 // What asks for a good image.
 fn run_on_image(
+    rt: &impl Print,
     region: &mut [u8],
     script: &[u8],
     out: &mut [u8],
@@ -503,17 +541,18 @@ fn run_on_image(
     requires { good region.old ≡ true }
 {
     match command {
-        Command::Used => say_used(region, out, run),
-        Command::Store => store_line(region, script, out, first, second, run),
-        Command::Remove => remove_line(region, script, out, first, run),
-        Command::Fetch => fetch_line(region, script, out, first, run),
-        Command::Open => open_line(region, script, out, run),
-        Command::Next => next_line(region, script, out, run),
-        _ => bad_line(out, run),
+        Command::Used => say_used(rt, region, out, run),
+        Command::Store => store_line(rt, region, script, out, first, second, run),
+        Command::Remove => remove_line(rt, region, script, out, first, run),
+        Command::Fetch => fetch_line(rt, region, script, out, first, run),
+        Command::Open => open_line(rt, region, script, out, run),
+        Command::Next => next_line(rt, region, script, out, run),
+        _ => bad_line(rt, out, run),
     }
 }
 
 fn run_on_region(
+    rt: &impl Print,
     region: &mut [u8],
     script: &[u8],
     out: &mut [u8],
@@ -524,20 +563,21 @@ fn run_on_region(
     run: Run,
 ) -> Run {
     if let Command::Good = command {
-        return say_good(region, out, run);
+        return say_good(rt, region, out, run);
     }
     if let Command::Bytes = command {
-        return say_bytes(region, out, run);
+        return say_bytes(rt, region, out, run);
     }
     if region::is_good(region) {
-        return run_on_image(region, script, out, command, first, second, run);
+        return run_on_image(rt, region, script, out, command, first, second, run);
     }
-    let waiting = output::put(out, run.waiting, name);
-    let waiting = output::put(out, waiting, b" bad image\n");
+    let waiting = output::put(rt, out, run.waiting, name);
+    let waiting = output::put(rt, out, waiting, b" bad image\n");
     run.waits(waiting)
 }
 
 fn run_words(
+    rt: &impl Print,
     region: &mut [u8],
     script: &mut [u8],
     out: &mut [u8],
@@ -552,16 +592,17 @@ fn run_words(
 {
     let command = command_of(name);
     if !has_words(command, first, second, third) {
-        return bad_bench(out, bench);
+        return bad_bench(rt, out, bench);
     }
     match command {
-        Command::Region => set_region(region, out, first, second, bench),
-        Command::Script => set_script(script, out, first, bench),
-        Command::Unknown => bad_bench(out, bench),
+        Command::Region => set_region(rt, region, out, first, second, bench),
+        Command::Script => set_script(rt, script, out, first, bench),
+        Command::Unknown => bad_bench(rt, out, bench),
         _ => {
             let size = bench.region;
             let count = bench.script;
             let run = run_on_region(
+                rt,
                 &mut region[..size],
                 &script[..count],
                 out,
@@ -581,6 +622,7 @@ fn run_words(
 }
 
 fn run_line(
+    rt: &impl Print,
     region: &mut [u8],
     script: &mut [u8],
     out: &mut [u8],
@@ -595,6 +637,7 @@ fn run_line(
     let second = text::next_field(line, first.to);
     let third = text::next_field(line, second.to);
     run_words(
+        rt,
         region,
         script,
         out,
@@ -608,6 +651,7 @@ fn run_line(
 
 // A line as it came: one that is too long is a bad one.
 fn run_read(
+    rt: &impl Print,
     region: &mut [u8],
     script: &mut [u8],
     out: &mut [u8],
@@ -619,13 +663,15 @@ fn run_read(
     ensures { Kept region.old script.old result }
 {
     match kind {
-        LineKind::Whole => run_line(region, script, out, line, bench),
-        _ => bad_bench(out, bench),
+        LineKind::Whole => run_line(rt, region, script, out, line, bench),
+        _ => bad_bench(rt, out, bench),
     }
 }
 
 // All lines, and how many bytes wait at the end.
 fn run_lines(
+    rt: &impl Print,
+    reader: &mut impl Read,
     region: &mut [u8],
     script: &mut [u8],
     input: &mut [u8],
@@ -638,10 +684,9 @@ fn run_lines(
         run: Run::new(0),
     };
     let mut unread = Unread { from: 0, to: 0 };
-    // A proved loop has to end: the lines go down from a number that no run uses up.
-    let mut lines = u64::MAX;
-    while 0 < lines {
-        let got = text::read_line(input, unread, line);
+    // A proved loop has to end: no run has so many lines.
+    for _ in 0..u64::MAX {
+        let got = text::read_line(reader, input, unread, line);
         unread = got.unread;
         let len = got.len;
         let kind = got.kind;
@@ -649,19 +694,27 @@ fn run_lines(
             let run = bench.run;
             return run.waiting;
         }
-        bench = run_read(region, script, out, &line[..len], kind, bench);
-        lines -= 1;
+        bench = run_read(rt, region, script, out, &line[..len], kind, bench);
     }
     let run = bench.run;
     run.waiting
 }
 
-fn main() {
+fn main(rt: HostRuntime) {
+    let mut reader = rt.reader();
     let mut region = [255u8; REGION_SIZE];
     let mut script = [0u8; SCRIPT_SIZE];
     let mut input = [0u8; IN_SIZE];
     let mut line = [0u8; LINE_SIZE];
     let mut out = [0u8; OUT_SIZE];
-    let waiting = run_lines(&mut region, &mut script, &mut input, &mut line, &mut out);
-    output::flush(&out, waiting);
+    let waiting = run_lines(
+        &rt,
+        &mut reader,
+        &mut region,
+        &mut script,
+        &mut input,
+        &mut line,
+        &mut out,
+    );
+    output::flush(&rt, &out, waiting);
 }

@@ -10,6 +10,7 @@ use definition::{
     Answer, DELETE_KIND, Fault, GetAnswer, Health, PUT_KIND, ScanEnd, Space, State, TruthAnswer,
 };
 use region::Next;
+use std::io::Read;
 use text::{Filled, Hex, LineKind, Numeral, Unread};
 
 // The largest region.
@@ -65,38 +66,24 @@ struct Console {
 // ---- reading
 
 fn command_of(name: &[u8]) -> Command {
-    if check::same(name, b"mount") {
-        return Command::Mount;
+    match name {
+        b"mount" => Command::Mount,
+        b"script" => Command::Script,
+        b"batch" => Command::Batch,
+        b"scan" => Command::Scan,
+        b"free" => Command::Free,
+        _ => key_command_of(name),
     }
-    if check::same(name, b"script") {
-        return Command::Script;
-    }
-    if check::same(name, b"batch") {
-        return Command::Batch;
-    }
-    if check::same(name, b"scan") {
-        return Command::Scan;
-    }
-    if check::same(name, b"free") {
-        return Command::Free;
-    }
-    key_command_of(name)
 }
 
 fn key_command_of(name: &[u8]) -> Command {
-    if check::same(name, b"put") {
-        return Command::Put;
+    match name {
+        b"put" => Command::Put,
+        b"get" => Command::Get,
+        b"has" => Command::Has,
+        b"del" => Command::Del,
+        _ => Command::Unknown,
     }
-    if check::same(name, b"get") {
-        return Command::Get;
-    }
-    if check::same(name, b"has") {
-        return Command::Has;
-    }
-    if check::same(name, b"del") {
-        return Command::Del;
-    }
-    Command::Unknown
 }
 
 // Script codes: words of two hex digits.
@@ -154,12 +141,12 @@ fn add_operation(list: &mut [u8], used: usize, name: &[u8], key: &[u8], value: &
         return Filled::Unread;
     }
     if value.len() == 0 {
-        if check::same(name, b"del") {
+        if slices::same(name, b"del") {
             return add_record(list, used, DELETE_KIND, key, value);
         }
         return Filled::Unread;
     }
-    if check::same(name, b"put") {
+    if slices::same(name, b"put") {
         return add_record(list, used, PUT_KIND, key, value);
     }
     Filled::Unread
@@ -206,41 +193,41 @@ fn read_operations(words: &[u8], list: &mut [u8]) -> Filled
 
 // ---- writing
 
-fn put_refused(out: &mut [u8], waiting: usize, fault: Fault) -> usize {
-    let waiting = output::put(out, waiting, b"refused ");
-    let waiting = output::put_decimal(out, waiting, numbers::number(fault) as u64);
-    output::put(out, waiting, b" ")
+fn put_refused(rt: &impl Print, out: &mut [u8], waiting: usize, fault: Fault) -> usize {
+    let waiting = output::put(rt, out, waiting, b"refused ");
+    let waiting = output::put_decimal(rt, out, waiting, numbers::number(fault) as u64);
+    output::put(rt, out, waiting, b" ")
 }
 
-fn put_answer(out: &mut [u8], waiting: usize, answer: Answer) -> usize {
+fn put_answer(rt: &impl Print, out: &mut [u8], waiting: usize, answer: Answer) -> usize {
     match answer {
-        Answer::Ok => output::put(out, waiting, b"ok "),
-        Answer::Refused(fault) => put_refused(out, waiting, fault),
+        Answer::Ok => output::put(rt, out, waiting, b"ok "),
+        Answer::Refused(fault) => put_refused(rt, out, waiting, fault),
     }
 }
 
-fn put_truth(out: &mut [u8], waiting: usize, answer: TruthAnswer) -> usize {
+fn put_truth(rt: &impl Print, out: &mut [u8], waiting: usize, answer: TruthAnswer) -> usize {
     match answer {
-        TruthAnswer::Yes => output::put(out, waiting, b"yes "),
-        TruthAnswer::No => output::put(out, waiting, b"no "),
-        TruthAnswer::Refused(fault) => put_refused(out, waiting, fault),
+        TruthAnswer::Yes => output::put(rt, out, waiting, b"yes "),
+        TruthAnswer::No => output::put(rt, out, waiting, b"no "),
+        TruthAnswer::Refused(fault) => put_refused(rt, out, waiting, fault),
     }
 }
 
-fn put_health(out: &mut [u8], waiting: usize, health: Health) -> usize {
+fn put_health(rt: &impl Print, out: &mut [u8], waiting: usize, health: Health) -> usize {
     match health {
-        Health::Clean => output::put(out, waiting, b"clean\n"),
-        Health::Debris => output::put(out, waiting, b"debris\n"),
-        Health::Pending => output::put(out, waiting, b"pending\n"),
+        Health::Clean => output::put(rt, out, waiting, b"clean\n"),
+        Health::Debris => output::put(rt, out, waiting, b"debris\n"),
+        Health::Pending => output::put(rt, out, waiting, b"pending\n"),
     }
 }
 
 // How the answer of a mounted store ends: the item calls, and the health.
-fn close_line(out: &mut [u8], waiting: usize, calls: u64, state: State) -> Said {
-    let waiting = output::put_decimal(out, waiting, calls);
-    let waiting = output::put(out, waiting, b" ");
+fn close_line(rt: &impl Print, out: &mut [u8], waiting: usize, calls: u64, state: State) -> Said {
+    let waiting = output::put_decimal(rt, out, waiting, calls);
+    let waiting = output::put(rt, out, waiting, b" ");
     let health = state.health;
-    let waiting = put_health(out, waiting, health);
+    let waiting = put_health(rt, out, waiting, health);
     Said {
         mounted: true,
         state: state,
@@ -248,18 +235,18 @@ fn close_line(out: &mut [u8], waiting: usize, calls: u64, state: State) -> Said 
     }
 }
 
-fn bad_line(out: &mut [u8], said: Said) -> Said {
-    let waiting = output::put(out, said.waiting, b"bad line\n");
+fn bad_line(rt: &impl Print, out: &mut [u8], said: Said) -> Said {
+    let waiting = output::put(rt, out, said.waiting, b"bad line\n");
     let mut next = said;
     next.waiting = waiting;
     next
 }
 
 // A bad line, with the lengths as they were.
-fn bad_console(out: &mut [u8], console: Console) -> Console
+fn bad_console(rt: &impl Print, out: &mut [u8], console: Console) -> Console
     ensures { (result.region ≡ console.region) × (result.script ≡ console.script) }
 {
-    let said = bad_line(out, console.said);
+    let said = bad_line(rt, out, console.said);
     Console {
         region: console.region,
         script: console.script,
@@ -278,6 +265,7 @@ fn front(bytes: &[u8], len: usize) -> &[u8] {
 // ---- calls
 
 fn put_line(
+    rt: &impl Print,
     region: &mut [u8],
     script: &[u8],
     out: &mut [u8],
@@ -286,25 +274,32 @@ fn put_line(
     said: Said,
 ) -> Said {
     let reply = store::put(region, script, said.state, key, value);
-    let waiting = output::put(out, said.waiting, b"put ");
+    let waiting = output::put(rt, out, said.waiting, b"put ");
     let answer = reply.answer;
-    let waiting = put_answer(out, waiting, answer);
-    close_line(out, waiting, reply.calls, reply.state)
+    let waiting = put_answer(rt, out, waiting, answer);
+    close_line(rt, out, waiting, reply.calls, reply.state)
 }
 
-fn put_got(out: &mut [u8], waiting: usize, answer: GetAnswer, value: &[u8]) -> usize {
+fn put_got(
+    rt: &impl Print,
+    out: &mut [u8],
+    waiting: usize,
+    answer: GetAnswer,
+    value: &[u8],
+) -> usize {
     match answer {
         GetAnswer::Found(len) => {
-            let waiting = output::put(out, waiting, b"found ");
-            let waiting = output::put(out, waiting, front(value, len));
-            output::put(out, waiting, b" ")
+            let waiting = output::put(rt, out, waiting, b"found ");
+            let waiting = output::put(rt, out, waiting, front(value, len));
+            output::put(rt, out, waiting, b" ")
         }
-        GetAnswer::Absent => output::put(out, waiting, b"absent "),
-        GetAnswer::Refused(fault) => put_refused(out, waiting, fault),
+        GetAnswer::Absent => output::put(rt, out, waiting, b"absent "),
+        GetAnswer::Refused(fault) => put_refused(rt, out, waiting, fault),
     }
 }
 
 fn get_line(
+    rt: &impl Print,
     region: &mut [u8],
     script: &[u8],
     work: &mut [u8],
@@ -313,29 +308,44 @@ fn get_line(
     said: Said,
 ) -> Said {
     let reply = store::get(region, script, said.state, key, work);
-    let waiting = output::put(out, said.waiting, b"get ");
+    let waiting = output::put(rt, out, said.waiting, b"get ");
     let answer = reply.answer;
-    let waiting = put_got(out, waiting, answer, work);
-    close_line(out, waiting, reply.calls, reply.state)
+    let waiting = put_got(rt, out, waiting, answer, work);
+    close_line(rt, out, waiting, reply.calls, reply.state)
 }
 
-fn has_line(region: &mut [u8], script: &[u8], out: &mut [u8], key: &[u8], said: Said) -> Said {
+fn has_line(
+    rt: &impl Print,
+    region: &mut [u8],
+    script: &[u8],
+    out: &mut [u8],
+    key: &[u8],
+    said: Said,
+) -> Said {
     let reply = store::contains(region, script, said.state, key);
-    let waiting = output::put(out, said.waiting, b"has ");
+    let waiting = output::put(rt, out, said.waiting, b"has ");
     let answer = reply.answer;
-    let waiting = put_truth(out, waiting, answer);
-    close_line(out, waiting, reply.calls, reply.state)
+    let waiting = put_truth(rt, out, waiting, answer);
+    close_line(rt, out, waiting, reply.calls, reply.state)
 }
 
-fn del_line(region: &mut [u8], script: &[u8], out: &mut [u8], key: &[u8], said: Said) -> Said {
+fn del_line(
+    rt: &impl Print,
+    region: &mut [u8],
+    script: &[u8],
+    out: &mut [u8],
+    key: &[u8],
+    said: Said,
+) -> Said {
     let reply = store::delete(region, script, said.state, key);
-    let waiting = output::put(out, said.waiting, b"del ");
+    let waiting = output::put(rt, out, said.waiting, b"del ");
     let answer = reply.answer;
-    let waiting = put_truth(out, waiting, answer);
-    close_line(out, waiting, reply.calls, reply.state)
+    let waiting = put_truth(rt, out, waiting, answer);
+    close_line(rt, out, waiting, reply.calls, reply.state)
 }
 
 fn batch_line(
+    rt: &impl Print,
     region: &mut [u8],
     script: &[u8],
     work: &mut [u8],
@@ -344,52 +354,53 @@ fn batch_line(
     said: Said,
 ) -> Said {
     let Filled::To(count) = read_operations(words, work) else {
-        return bad_line(out, said);
+        return bad_line(rt, out, said);
     };
     let reply = batch::apply_batch(region, script, said.state, &work[..count]);
-    let waiting = output::put(out, said.waiting, b"batch ");
+    let waiting = output::put(rt, out, said.waiting, b"batch ");
     let answer = reply.answer;
-    let waiting = put_answer(out, waiting, answer);
-    close_line(out, waiting, reply.calls, reply.state)
+    let waiting = put_answer(rt, out, waiting, answer);
+    close_line(rt, out, waiting, reply.calls, reply.state)
 }
 
 // ---- scan
 
-fn put_end(out: &mut [u8], waiting: usize, end: ScanEnd, count: usize) -> usize {
+fn put_end(rt: &impl Print, out: &mut [u8], waiting: usize, end: ScanEnd, count: usize) -> usize {
     match end {
-        ScanEnd::Finished => put_count(out, waiting, b"finished ", count),
-        ScanEnd::Stopped => put_count(out, waiting, b"stopped ", count),
-        ScanEnd::NoRoom => put_count(out, waiting, b"noroom ", count),
-        ScanEnd::Refused(fault) => put_refused(out, waiting, fault),
+        ScanEnd::Finished => put_count(rt, out, waiting, b"finished ", count),
+        ScanEnd::Stopped => put_count(rt, out, waiting, b"stopped ", count),
+        ScanEnd::NoRoom => put_count(rt, out, waiting, b"noroom ", count),
+        ScanEnd::Refused(fault) => put_refused(rt, out, waiting, fault),
     }
 }
 
-fn put_count(out: &mut [u8], waiting: usize, name: &[u8], count: usize) -> usize {
-    let waiting = output::put(out, waiting, name);
-    let waiting = output::put_decimal(out, waiting, count as u64);
-    output::put(out, waiting, b" ")
+fn put_count(rt: &impl Print, out: &mut [u8], waiting: usize, name: &[u8], count: usize) -> usize {
+    let waiting = output::put(rt, out, waiting, name);
+    let waiting = output::put_decimal(rt, out, waiting, count as u64);
+    output::put(rt, out, waiting, b" ")
 }
 
-fn put_item(out: &mut [u8], waiting: usize, record: &[u8]) -> usize {
-    let waiting = output::put(out, waiting, b"item ");
-    let waiting = output::put_hex(out, waiting, record);
-    output::put(out, waiting, b"\n")
+fn put_item(rt: &impl Print, out: &mut [u8], waiting: usize, record: &[u8]) -> usize {
+    let waiting = output::put(rt, out, waiting, b"item ");
+    let waiting = output::put_hex(rt, out, waiting, record);
+    output::put(rt, out, waiting, b"\n")
 }
 
 // A line for each record.
-fn put_items(out: &mut [u8], waiting: usize, records: &[u8]) -> usize {
+fn put_items(rt: &impl Print, out: &mut [u8], waiting: usize, records: &[u8]) -> usize {
     let mut waiting = waiting;
     let mut at: usize = 0;
     loop {
         let Next::Item(_, _, next) = region::next_item(records, at) else {
             return waiting;
         };
-        waiting = put_item(out, waiting, &records[at..next]);
+        waiting = put_item(rt, out, waiting, &records[at..next]);
         at = next;
     }
 }
 
 fn scan_line(
+    rt: &impl Print,
     region: &mut [u8],
     script: &[u8],
     work: &mut [u8],
@@ -400,30 +411,30 @@ fn scan_line(
 ) -> Said {
     let reply = listing::scan_prefix(region, script, said.state, prefix, most, work);
     let scanned = reply.answer;
-    let waiting = output::put(out, said.waiting, b"scan ");
+    let waiting = output::put(rt, out, said.waiting, b"scan ");
     let end = scanned.end;
-    let waiting = put_end(out, waiting, end, scanned.count);
-    let mut closed = close_line(out, waiting, reply.calls, reply.state);
-    closed.waiting = put_items(out, closed.waiting, front(work, scanned.length));
+    let waiting = put_end(rt, out, waiting, end, scanned.count);
+    let mut closed = close_line(rt, out, waiting, reply.calls, reply.state);
+    closed.waiting = put_items(rt, out, closed.waiting, front(work, scanned.length));
     closed
 }
 
 // The display's question: free bytes, used bytes and takes, as the state has them. No item call is made for it.
-fn free_line(out: &mut [u8], said: Said) -> Said {
+fn free_line(rt: &impl Print, out: &mut [u8], said: Said) -> Said {
     let space = store::space(said.state);
-    let waiting = output::put(out, said.waiting, b"free ");
-    let waiting = output::put_decimal(out, waiting, space.free as u64);
-    let waiting = output::put(out, waiting, b" ");
-    let waiting = output::put_decimal(out, waiting, space.used as u64);
-    let waiting = output::put(out, waiting, b" ");
-    let waiting = output::put_decimal(out, waiting, space.takes as u64);
-    let waiting = output::put(out, waiting, b" ");
-    close_line(out, waiting, 0, said.state)
+    let waiting = output::put(rt, out, said.waiting, b"free ");
+    let waiting = output::put_decimal(rt, out, waiting, space.free as u64);
+    let waiting = output::put(rt, out, waiting, b" ");
+    let waiting = output::put_decimal(rt, out, waiting, space.used as u64);
+    let waiting = output::put(rt, out, waiting, b" ");
+    let waiting = output::put_decimal(rt, out, waiting, space.takes as u64);
+    let waiting = output::put(rt, out, waiting, b" ");
+    close_line(rt, out, waiting, 0, said.state)
 }
 
 // `-` stands for the empty prefix.
 fn prefix_of(word: &[u8]) -> &[u8] {
-    if check::same(word, b"-") {
+    if slices::same(word, b"-") {
         return &word[0..0];
     }
     word
@@ -440,6 +451,7 @@ fn most_of(word: &[u8]) -> Numeral {
 // ---- lines of a mounted store
 
 fn run_scan(
+    rt: &impl Print,
     region: &mut [u8],
     script: &[u8],
     work: &mut [u8],
@@ -449,9 +461,10 @@ fn run_scan(
     said: Said,
 ) -> Said {
     let Numeral::Value(most) = most_of(second) else {
-        return bad_line(out, said);
+        return bad_line(rt, out, said);
     };
     scan_line(
+        rt,
         region,
         script,
         work,
@@ -463,6 +476,7 @@ fn run_scan(
 }
 
 fn run_key(
+    rt: &impl Print,
     region: &mut [u8],
     script: &[u8],
     work: &mut [u8],
@@ -472,23 +486,24 @@ fn run_key(
     said: Said,
 ) -> Said {
     match command {
-        Command::Get => get_line(region, script, work, out, key, said),
-        Command::Has => has_line(region, script, out, key, said),
-        Command::Del => del_line(region, script, out, key, said),
-        _ => bad_line(out, said),
+        Command::Get => get_line(rt, region, script, work, out, key, said),
+        Command::Has => has_line(rt, region, script, out, key, said),
+        Command::Del => del_line(rt, region, script, out, key, said),
+        _ => bad_line(rt, out, said),
     }
 }
 
 // A command by itself.
-fn run_bare(out: &mut [u8], command: Command, said: Said) -> Said {
+fn run_bare(rt: &impl Print, out: &mut [u8], command: Command, said: Said) -> Said {
     match command {
-        Command::Free => free_line(out, said),
-        _ => bad_line(out, said),
+        Command::Free => free_line(rt, out, said),
+        _ => bad_line(rt, out, said),
     }
 }
 
 // A command with one word or two, or none; an empty one is not there.
 fn run_words(
+    rt: &impl Print,
     region: &mut [u8],
     script: &[u8],
     work: &mut [u8],
@@ -499,24 +514,25 @@ fn run_words(
     said: Said,
 ) -> Said {
     if first.len() == 0 {
-        return run_bare(out, command, said);
+        return run_bare(rt, out, command, said);
     }
     if let Command::Scan = command {
-        return run_scan(region, script, work, out, first, second, said);
+        return run_scan(rt, region, script, work, out, first, second, said);
     }
     if let Command::Put = command {
         if second.len() == 0 {
-            return bad_line(out, said);
+            return bad_line(rt, out, said);
         }
-        return put_line(region, script, out, first, second, said);
+        return put_line(rt, region, script, out, first, second, said);
     }
     if second.len() != 0 {
-        return bad_line(out, said);
+        return bad_line(rt, out, said);
     }
-    run_key(region, script, work, out, command, first, said)
+    run_key(rt, region, script, work, out, command, first, said)
 }
 
 fn run_call(
+    rt: &impl Print,
     region: &mut [u8],
     script: &[u8],
     work: &mut [u8],
@@ -526,15 +542,16 @@ fn run_call(
     said: Said,
 ) -> Said {
     if let Command::Batch = command {
-        return batch_line(region, script, work, out, words, said);
+        return batch_line(rt, region, script, work, out, words, said);
     }
     let first = text::next_field(words, 0);
     let second = text::next_field(words, first.to);
     let third = text::next_field(words, second.to);
     if text::word(words, third).len() != 0 {
-        return bad_line(out, said);
+        return bad_line(rt, out, said);
     }
     run_words(
+        rt,
         region,
         script,
         work,
@@ -549,27 +566,25 @@ fn run_call(
 // ---- lines
 
 fn erase(region: &mut [u8]) {
-    let mut i: usize = 0;
-    while i < region.len() {
-        region[i] = 255;
-        i += 1;
+    for byte in region.iter_mut() {
+        *byte = 255;
     }
 }
 
 // Mounts erased bytes at address 0; the script goes on where it stands.
-fn mount(region: &mut [u8], script: &[u8], out: &mut [u8], said: Said) -> Said {
+fn mount(rt: &impl Print, region: &mut [u8], script: &[u8], out: &mut [u8], said: Said) -> Said {
     erase(region);
     let state = said.state;
     let reply = store::mount(region, script, 0, state.at);
-    let waiting = output::put(out, said.waiting, b"mount ");
+    let waiting = output::put(rt, out, said.waiting, b"mount ");
     let answer = reply.answer;
-    let waiting = put_answer(out, waiting, answer);
+    let waiting = put_answer(rt, out, waiting, answer);
     let Answer::Refused(_) = answer else {
-        return close_line(out, waiting, reply.calls, reply.state);
+        return close_line(rt, out, waiting, reply.calls, reply.state);
     };
     // No store is mounted, and so there is no health.
-    let waiting = output::put_decimal(out, waiting, reply.calls);
-    let waiting = output::put(out, waiting, b" -\n");
+    let waiting = output::put_decimal(rt, out, waiting, reply.calls);
+    let waiting = output::put(rt, out, waiting, b" -\n");
     let state = reply.state;
     Said {
         mounted: false,
@@ -579,6 +594,7 @@ fn mount(region: &mut [u8], script: &[u8], out: &mut [u8], said: Said) -> Said {
 }
 
 fn mount_sized(
+    rt: &impl Print,
     region: &mut [u8],
     script: &[u8],
     out: &mut [u8],
@@ -589,10 +605,10 @@ fn mount_sized(
     ensures { Kept region.old script.now result }
 {
     if region.len() < size {
-        return bad_console(out, console);
+        return bad_console(rt, out, console);
     }
     let count = console.script;
-    let said = mount(&mut region[..size], &script[..count], out, console.said);
+    let said = mount(rt, &mut region[..size], &script[..count], out, console.said);
     Console {
         region: size,
         script: count,
@@ -601,6 +617,7 @@ fn mount_sized(
 }
 
 fn mount_line(
+    rt: &impl Print,
     region: &mut [u8],
     script: &[u8],
     out: &mut [u8],
@@ -613,12 +630,12 @@ fn mount_line(
     let first = text::next_field(words, 0);
     let second = text::next_field(words, first.to);
     if text::word(words, second).len() != 0 {
-        return bad_console(out, console);
+        return bad_console(rt, out, console);
     }
     let Numeral::Value(size) = text::read_numeral(text::word(words, first)) else {
-        return bad_console(out, console);
+        return bad_console(rt, out, console);
     };
-    mount_sized(region, script, out, size as usize, console)
+    mount_sized(rt, region, script, out, size as usize, console)
 }
 
 // The state with a new script: its place is the script's start. A cut stands until a mount.
@@ -640,6 +657,7 @@ fn restarted(said: Said) -> Said {
 }
 
 fn script_line(
+    rt: &impl Print,
     script: &mut [u8],
     work: &mut [u8],
     out: &mut [u8],
@@ -650,10 +668,10 @@ fn script_line(
     ensures { (result.region ≡ console.region) × (result.script ≤ length script.old) }
 {
     let Filled::To(count) = read_codes(words, work) else {
-        return bad_console(out, console);
+        return bad_console(rt, out, console);
     };
     if script.len() < count {
-        return bad_console(out, console);
+        return bad_console(rt, out, console);
     }
     slices::copy_in(script, 0, &work[..count]);
     let said = restarted(console.said);
@@ -665,6 +683,7 @@ fn script_line(
 }
 
 fn call_line(
+    rt: &impl Print,
     region: &mut [u8],
     script: &[u8],
     work: &mut [u8],
@@ -678,11 +697,12 @@ fn call_line(
 {
     let said = console.said;
     if !said.mounted {
-        return bad_console(out, console);
+        return bad_console(rt, out, console);
     }
     let size = console.region;
     let count = console.script;
     let said = run_call(
+        rt,
         &mut region[..size],
         &script[..count],
         work,
@@ -699,6 +719,7 @@ fn call_line(
 }
 
 fn run_line(
+    rt: &impl Print,
     region: &mut [u8],
     script: &mut [u8],
     work: &mut [u8],
@@ -714,14 +735,15 @@ fn run_line(
     let to = name.to;
     let words = &line[to..];
     match command {
-        Command::Mount => mount_line(region, script, out, words, console),
-        Command::Script => script_line(script, work, out, words, console),
-        _ => call_line(region, script, work, out, command, words, console),
+        Command::Mount => mount_line(rt, region, script, out, words, console),
+        Command::Script => script_line(rt, script, work, out, words, console),
+        _ => call_line(rt, region, script, work, out, command, words, console),
     }
 }
 
 // A line as it came: one that is too long is a bad one.
 fn run_kind(
+    rt: &impl Print,
     region: &mut [u8],
     script: &mut [u8],
     work: &mut [u8],
@@ -734,17 +756,17 @@ fn run_kind(
     ensures { Kept region.old script.old result }
 {
     match kind {
-        LineKind::Whole => run_line(region, script, work, out, line, console),
-        _ => bad_console(out, console),
+        LineKind::Whole => run_line(rt, region, script, work, out, line, console),
+        _ => bad_console(rt, out, console),
     }
 }
 
 // Writes what waits, with the lengths as they were.
-fn shown(out: &[u8], console: Console) -> Console
+fn shown(rt: &impl Print, out: &[u8], console: Console) -> Console
     ensures { (result.region ≡ console.region) × (result.script ≡ console.script) }
 {
     let mut said = console.said;
-    said.waiting = output::flush(out, said.waiting);
+    said.waiting = output::flush(rt, out, said.waiting);
     Console {
         region: console.region,
         script: console.script,
@@ -755,6 +777,7 @@ fn shown(out: &[u8], console: Console) -> Console
 // A line, and its answer written at once: whoever typed it, or sent it through a pipe, may wait for that before the
 // next line.
 fn run_read(
+    rt: &impl Print,
     region: &mut [u8],
     script: &mut [u8],
     work: &mut [u8],
@@ -766,8 +789,8 @@ fn run_read(
     requires { Kept region.old script.old console }
     ensures { Kept region.old script.old result }
 {
-    let console = run_kind(region, script, work, out, line, kind, console);
-    shown(out, console)
+    let console = run_kind(rt, region, script, work, out, line, kind, console);
+    shown(rt, out, console)
 }
 
 // Before the first line: nothing is mounted, and the script is empty.
@@ -799,6 +822,8 @@ fn started() -> Console
 
 // All lines.
 fn run_lines(
+    rt: &impl Print,
+    reader: &mut impl Read,
     region: &mut [u8],
     script: &mut [u8],
     work: &mut [u8],
@@ -808,22 +833,21 @@ fn run_lines(
 ) {
     let mut console = started();
     let mut unread = Unread { from: 0, to: 0 };
-    // A proved loop has to end: the lines go down from a number that no run uses up.
-    let mut lines = u64::MAX;
-    while 0 < lines {
-        let got = text::read_line(input, unread, line);
+    // A proved loop has to end: no run has so many lines.
+    for _ in 0..u64::MAX {
+        let got = text::read_line(reader, input, unread, line);
         unread = got.unread;
         let len = got.len;
         let kind = got.kind;
         if let LineKind::Over = kind {
             return;
         }
-        console = run_read(region, script, work, out, &line[..len], kind, console);
-        lines -= 1;
+        console = run_read(rt, region, script, work, out, &line[..len], kind, console);
     }
 }
 
-fn main() {
+fn main(rt: HostRuntime) {
+    let mut reader = rt.reader();
     let mut region = [255u8; REGION_SIZE];
     let mut script = [0u8; SCRIPT_SIZE];
     let mut work = [0u8; WORK_SIZE];
@@ -831,6 +855,8 @@ fn main() {
     let mut line = [0u8; LINE_SIZE];
     let mut out = [0u8; OUT_SIZE];
     run_lines(
+        &rt,
+        &mut reader,
         &mut region,
         &mut script,
         &mut work,

@@ -7,15 +7,15 @@ use native.Mathlib.Numerals.{add-one}
 use native.Mathlib.Omega.{arith}
 use lib.Dec.{T, eqb, ltb}
 use borrow.Author.Tests.{eq-eqb, ne_eqb, le-leb, lt-leb, lt-ltb, le-ltb}
-use lib.ListN.{length, get_or, take, drop, drop_of_length-le, length-drop}
-use lib.Seq.{drop-cons, take_all, length-take-le}
+use lib.ListN.{length, get_or, take, drop, drop_of_length-le}
+use lib.Seq.{drop-cons, length-take-le}
 use Rattle.definition.specs.Tools.{Bytes, pick}
 use Rattle.definition.proofs.Choices.{pick_yes, pick_no}
-use Rattle.text.specs.Words.{up_to, Finds, spaces, Skips, NextWord, InBuffer, Fills}
-use Rattle.text.specs.Numerals.{among, numeral_from, numeral_of, digit_of, Small, joined, pair_of}
+use Rattle.text.specs.Words.{up_to, Finds, spaces, Skips, InBuffer, Fills}
+use Rattle.text.specs.Numerals.{among, numeral_from, numeral_of, digit_of, joined, pair_of}
 use Rattle.slices.specs.Written.{written}
 use Rattle.slices.proofs.Copying.{take_written}
-use Rattle.text.specs.Lines.{holds_all, Holds, Ended, Last, LineRead}
+use Rattle.text.specs.Lines.{holds_all, Holds, Ended, Last}
 use Rattle.text.specs.declared.Filled.{Filled}
 use Rattle.text.specs.declared.Filled.TheVariants.{To}
 use Rattle.text.specs.declared.Held.{Held}
@@ -32,9 +32,6 @@ use Rattle.text.specs.declared.Hex.TheVariants as H
 pub record Seeking (s : Bytes) (b i : ℕ) : Type 0 where
   pub most : i ≤ length s
   pub is : up_to b s ≡ i + up_to b (drop i s)
-
-pub seeking_none : (s : Bytes) (b : ℕ) → Seeking s b 0
-seeking_none s b = record { most = omega arith; is = omega arith }
 
 module _ {s : Bytes} {b i : ℕ} (k : Seeking s b i) where
   up_to_next : i < length s → up_to b (drop i s) ≡ pick (eqb (get_or s i 0) b) 0 (suc (up_to b (drop (suc i) s)))
@@ -54,12 +51,13 @@ module _ {s : Bytes} {b i : ℕ} (k : Seeking s b i) where
       let w = k.is in
       record { most = omega arith; is = rw q (omega arith) }
 
-  pub seeking_over : length s ≤ i → Finds s b i
+  pub seeking_over : length s ≤ i → Finds s b (length s)
   unfolding up_to
   seeking_over h =
       let z : up_to b (drop i s) ≡ 0 = ap (up_to b) (drop_of_length-le s h) in
+      let m = k.most in
       let w = k.is in
-      record { is = omega arith; inside = k.most }
+      record { is = omega arith; inside = omega arith }
 
 -- ---- words
 
@@ -88,22 +86,6 @@ module _ {s : Bytes} {at i : ℕ} (m : i ≤ length s) (e : at + spaces (drop at
 
   pub skips_all : length s ≤ i → Skips s at i
   skips_all h = let z = spaces_over s i h in record { is = omega arith; inside = m }
-
--- a word begins where the spaces end, and ends at the next one
-pub next_word : (s : Bytes) {at first n : ℕ} → Skips s at first → Finds (take (length s - first) (drop first s)) 32 n
-    → NextWord s at (record { from = first; to = first + n })
-next_word s {at} {first} {n} h f =
-    let a = h.is in
-    let b = h.inside in
-    let ld = length-drop first s in
-    let t : take (length s - first) (drop first s) ≡ drop first s = take_all (length s - first) (drop first s) (omega arith) in
-    let g : n ≤ length (drop first s) = rw t at f.inside in
-    record {
-      from = a;
-      to = ap (λ (x : ℕ). first + x) (f.is ∙ ap (up_to 32) t);
-      order = omega arith;
-      inside = omega arith;
-    }
 
 -- a count of bytes that were filled lies in the buffer
 module _ {out : Bytes} {r : Filled} {n : ℕ} (h : Fills out r) (e : r ≡ To n) where
@@ -178,9 +160,6 @@ module _ {s : Bytes} {n i : ℕ} (r : Reading s n i) where
           }
 
 -- ---- hex
-
-pub small_value : {r : Hex} {v : ℕ} → Small r → r ≡ H.Value v → v < 16
-small_value s e = subst Small e s
 
 module _ (x : ℕ) where
   pub digit_decimal : 48 ≤ x → x < 58 → H.Value (x - 48) ≡ digit_of x
@@ -310,18 +289,3 @@ module _ {h : Held} {r : LineAnswer} (d : Ended h (record { from = 0; to = 0 }) 
 
   pub last_long : h.fits ≡ false → Last h r
   last_long e = record { kind = d.kind ∙ pick_no _ _ e ∙ sym (pick_no _ _ e); len = d.len; short = d.short; from = d.from; to = d.to }
-
-module _ {input line : Bytes} {h : Held} {r : LineAnswer} (l : h.len ≤ length line) where
-  pub line_read : {u : Unread} → Ended h u r → u.from ≤ u.to → u.to ≤ length input → LineRead input line r
-  line_read d o w =
-      let e = d.short in
-      let f = d.from in
-      let t = d.to in
-      record { inside = omega arith; counted = sym (length-take-le r.len line (omega arith)); order = omega arith; within = omega arith }
-
-  pub line_last : Last h r → LineRead input line r
-  line_last d =
-      let e = d.short in
-      let f = d.from in
-      let t = d.to in
-      record { inside = omega arith; counted = sym (length-take-le r.len line (omega arith)); order = omega arith; within = omega arith }

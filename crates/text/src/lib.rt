@@ -6,7 +6,7 @@ ghost use Rattle.text.specs.Words.{Finds, Skips, NextWord};
 ghost use Rattle.text.specs.Numerals.{numeral_of, Digit, pair_of};
 ghost use Rattle.text.specs.Lines.{Holds, Ended, Last, LineRead};
 
-use libc::STDIN_FILENO;
+use std::io::Read;
 
 const SPACE: u8 = 32;
 
@@ -25,14 +25,12 @@ pub struct Field {
 pub fn find(bytes: &[u8], byte: u8) -> usize
     ensures { Finds bytes.now byte result }
 {
-    let mut at: usize = 0;
-    while at < bytes.len() {
-        if bytes[at] == byte {
+    for (at, here) in bytes.iter().enumerate() {
+        if *here == byte {
             return at;
         }
-        at += 1;
     }
-    at
+    bytes.len()
 }
 
 // The first place, from a place on, that is no space.
@@ -111,9 +109,8 @@ pub fn read_numeral(word: &[u8]) -> Numeral
         return Numeral::Unread;
     }
     let mut value: u64 = 0;
-    let mut i: usize = 0;
-    while i < word.len() {
-        let byte = wide(word[i]);
+    for digit in word {
+        let byte = wide(*digit);
         if byte < 48 {
             return Numeral::Unread;
         }
@@ -125,7 +122,6 @@ pub fn read_numeral(word: &[u8]) -> Numeral
             return Numeral::Unread;
         }
         value = value * 10 + digit;
-        i += 1;
     }
     Numeral::Value(value)
 }
@@ -158,7 +154,7 @@ pub fn read_hex(word: &[u8]) -> Hex
     Hex::Value(high * 16 + low)
 }
 
-// ---- standard input in lines
+// ---- the input in lines
 
 // The part of the input buffer that is read and not yet handed out.
 #[derive(Clone, Copy)]
@@ -249,18 +245,32 @@ fn last(held: Held) -> LineAnswer
     ended(held, unread)
 }
 
-// The next line of standard input, without its newline. Any byte but that may stand in it.
-pub fn read_line(input: &mut [u8], unread: Unread, line: &mut [u8]) -> LineAnswer
+// Reads more bytes to the front of the input buffer, and hands back how many came: none at the end of the input, as
+// which a read that fails counts too.
+fn fill(reader: &mut impl Read, input: &mut [u8]) -> usize
+    ensures { result ≤ length input.new }
+{
+    match reader.read(input) {
+        Ok(count) => count,
+        Err(_) => 0,
+    }
+}
+
+// The next line of the input, without its newline. Any byte but that may stand in it.
+pub fn read_line(
+    reader: &mut impl Read,
+    input: &mut [u8],
+    unread: Unread,
+    line: &mut [u8],
+) -> LineAnswer
     requires { (unread.from ≤ unread.to) × (unread.to ≤ length input.old) }
     ensures { LineRead input.new line.new result }
 {
     let mut from = unread.from;
     let mut to = unread.to;
     let mut held = Held { len: 0, fits: true };
-    // A proved loop has to end, and nothing says that the input does: the turns go down from a number that no run
-    // uses up.
-    let mut turns = u64::MAX;
-    while 0 < turns {
+    // A proved loop has to end, and nothing says that the input does: no run takes so many turns.
+    for _ in 0..u64::MAX {
         let end = from + find(&input[from..to], LINE_END);
         held = hold(line, held, &input[from..end]);
         if end < to {
@@ -272,13 +282,11 @@ pub fn read_line(input: &mut [u8], unread: Unread, line: &mut [u8]) -> LineAnswe
                 },
             );
         }
-        let got = libc::read(STDIN_FILENO, input);
         from = 0;
-        to = io::count(got, input);
+        to = fill(reader, input);
         if to == 0 {
             return last(held);
         }
-        turns -= 1;
     }
     last(held)
 }
