@@ -11,11 +11,10 @@ use lib.ListN.{length, get_or, take, drop, set, replicate, length-append, length
 use lib.Seq.{drop-cons, length-take-le, ext_get_or, get_or-drop}
 use borrow.Author.Tests.{lt-ltb, le-ltb}
 use Rattle.definition.specs.Tools.{Bytes}
-use Rattle.definition.specs.Codec.{Put, Delete, op_key, op_value, op_byte, reserved, long_key, long_value, key_too_long, value_too_long, key_read, key_in, key_length, key_write, key_bytes, order, op_fault, encode, encode_into, laid, laid_if}
+use Rattle.definition.specs.Codec.{Put, op_key, op_value, op_byte, reserved, long_key, long_value, key_too_long, value_too_long, key_read, key_in, key_length, key_write, key_bytes, order, op_fault, encode, encode_into, laid, laid_if}
 use Rattle.definition.proofs.Choices.{picked, passed, pick_yes, pick_no, opt_none, opt_some}
 use Rattle.definition.specs.declared.Fault.{Fault}
 use Rattle.definition.specs.declared.Fault.TheVariants.{Serialization, ReservedKey}
-use Rattle.definition.specs.declared.CapacityKind.TheVariants as C
 use Rattle.definition.specs.declared.SerializationKind.TheVariants.{BufferTooSmall, InvalidData}
 use Rattle.definition.specs.declared.CodecAnswer.{CodecAnswer}
 use Rattle.definition.specs.declared.CodecAnswer.TheVariants.{Len, Refused}

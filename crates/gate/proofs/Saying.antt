@@ -10,7 +10,7 @@ use Rattle.definition.specs.Region.{good}
 use Rattle.definition.specs.Program.{Prog, ret, on_p, world, ok, bad, exec, flat, fetch}
 use Rattle.definition.specs.Recovery.{recover}
 use Rattle.definition.specs.Calls.{Said, said, say, gate, is_pending}
-use Rattle.definition.specs.Public.{outcome, state, begin, outcome_of, public}
+use Rattle.definition.specs.Public.{outcome, begin, outcome_of, public}
 use Rattle.definition.proofs.Choices.{pick_yes, pick_no}
 use Rattle.definition.proofs.Running.{exec_ok, exec_bad}
 use Rattle.definition.specs.declared.Step.{Step}

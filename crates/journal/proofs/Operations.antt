@@ -8,7 +8,7 @@ use lib.ListN.{length, take, drop, length-append, length-take}
 use lib.Seq.{take-append_seam}
 use borrow.Author.Tests.{le-ltb, ltb-false}
 use Rattle.definition.specs.Tools.{Bytes}
-use Rattle.definition.specs.Codec.{Op, Put, Delete, op_key, op_value, long_key, long_value, op_fault, encode, encode_into, laid, laid_if, be16, journal_key}
+use Rattle.definition.specs.Codec.{Op, Put, op_key, op_value, long_key, long_value, op_fault, encode, encode_into, laid, laid_if, be16, journal_key}
 use Rattle.definition.specs.Region.{item, allowed}
 use Rattle.definition.specs.Program.{flat, store}
 use Rattle.definition.proofs.Choices.{pick_no, opt_none}

@@ -5,7 +5,7 @@ use mathlib.Core.List.{List, [], ◌∷◌}
 use Prim.Native.Nat.{ℕ, ◌<◌}
 use native.Mathlib.Omega.{arith}
 use lib.ListN.{length}
-use Rattle.definition.specs.Tools.{Bytes, pick, opt}
+use Rattle.definition.specs.Tools.{Bytes, opt}
 use Rattle.definition.specs.Region.{good}
 use Rattle.definition.specs.Program.{exec, world, flat}
 use Rattle.definition.specs.Calls.{say, batch, batch_of}

@@ -10,7 +10,7 @@ use Rattle.definition.specs.Tools.{Bytes}
 use Rattle.definition.specs.Codec.{Op, marker_key, marker}
 use Rattle.definition.specs.Region.{item, good}
 use Rattle.definition.specs.Program.{Prog, err, on_p, ◌▷◌, world, ok, bad, on, exec, flat, store, remove}
-use Rattle.definition.specs.Calls.{Said, said, say, is_clean, gate, journal, finish, read_back, apply_all, commit, journal_all}
+use Rattle.definition.specs.Calls.{Said, said, say, is_clean, gate, finish, read_back, apply_all, commit, journal_all}
 use Rattle.pooled.specs.Parts.{ops_named}
 use Rattle.definition.proofs.Running.{exec_on, exec_ok, exec_bad}
 use Rattle.definition.specs.declared.Step.{Step}

@@ -3,7 +3,7 @@ use mathlib.Core.Path.{◌≡◌, refl, sym, ap, ap₂, ◌∙◌, subst}
 use mathlib.Core.Bool.{Bool, true, false}
 use mathlib.Core.List.{List, [], ◌∷◌}
 use mathlib.Core.Option.{Option, none, some}
-use Prim.Native.Nat.{ℕ, suc, ◌+◌, ◌-◌, ◌*◌, ◌<◌, ◌≤◌}
+use Prim.Native.Nat.{ℕ, suc, ◌+◌, ◌*◌, ◌<◌, ◌≤◌}
 use native.Mathlib.Omega.{arith}
 use native.Mathlib.Numerals.{add-one}
 use lib.ListN.{length, drop, drop_of_length-le}
@@ -13,8 +13,7 @@ use Rattle.definition.specs.Tools.{Bytes, pick, opt}
 use Rattle.definition.specs.Codec.{Op, Put, batch_limit, op_fault}
 use Rattle.definition.specs.Program.{Prog, on_p, ◌▷◌, flat}
 use Rattle.definition.specs.Recovery.{land}
-use Rattle.definition.specs.Calls.{Said, say, ops_fault, batch_fault, journal, apply, finish, commit, batch, batch_of}
-use Rattle.definition.specs.OperationList.{ops_over}
+use Rattle.definition.specs.Calls.{Said, say, ops_fault, batch_fault, journal, apply, finish, commit, batch_of}
 use Rattle.pooled.specs.Parts.{part_at, is_op, op_named, are_ops, ops_named}
 use Rattle.definition.proofs.Choices.{pick_yes, pick_no, opt_none, opt_some}
 use Rattle.definition.specs.declared.Step.{Step}

@@ -11,7 +11,7 @@ use borrow.Author.Tests.{eqb-true, eqb-false}
 use lib.ListN.{length, take, drop, length-drop}
 use lib.Seq.{drop-drop}
 use Rattle.definition.specs.Tools.{Bytes, opt}
-use Rattle.definition.specs.Codec.{Op, Put, Delete, op_key, op_value, op_fault}
+use Rattle.definition.specs.Codec.{Op, Put, op_key, op_value, op_fault}
 use Rattle.definition.specs.Region.{head_size}
 use Rattle.definition.specs.OperationList.{op_at, op_size, ops_of}
 use Rattle.definition.proofs.Choices.{bool}

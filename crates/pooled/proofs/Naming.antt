@@ -11,7 +11,7 @@ use lib.Dec.{eqb, leb}
 use borrow.Author.Tests.{le-leb, lt-leb, leb-true, leb-false, eqb-true}
 use Rattle.definition.specs.Tools.{Bytes, pick, opt}
 use Rattle.definition.specs.Codec.{Op, Put, Delete, op_key, op_value, op_fault}
-use Rattle.definition.specs.OperationList.{put_kind, delete_kind, part_of, op_over, ops_over}
+use Rattle.definition.specs.OperationList.{put_kind, part_of, op_over, ops_over}
 use Rattle.definition.proofs.Choices.{picked, passed, pick_yes, pick_no, both, bool}
 use Rattle.definition.specs.declared.BatchOp.{BatchOp}
 use Rattle.codec.specs.declared.OpKind.{OpKind}

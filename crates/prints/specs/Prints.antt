@@ -1,7 +1,7 @@
 -- A key's hash, and a table of prints: what the table says of a hash, and what is true after one is noted. No answer
 -- of the image test depends on what a hash is, only on equal keys having equal ones; so nothing here has to be
 -- believed.
-use Rattle.std.specs.Prelude.{◌≡◌, Bool, true, false, List, [], ◌∷◌, ℕ, zero, suc, ◌+◌, ◌*◌, ◌/◌, ◌%◌, length, get_or, eqb}
+use Rattle.std.specs.Prelude.{◌≡◌, Bool, true, false, [], ◌∷◌, ℕ, zero, suc, ◌+◌, ◌*◌, ◌/◌, ◌%◌, length, get_or, eqb}
 use Rattle.definition.specs.Tools.{Bytes, pick}
 
 -- ---- a key's hash

@@ -1,10 +1,10 @@
 -- "Programs to be shown wrong", by demand 3: a put that says Ok and stores nothing, and a batch that does its first
 -- operation and says Ok. The plain map allows no such answers, whatever it is and whatever stands in the outputs.
-use mathlib.Core.Path.{◌≡◌, refl, sym, ap, ◌∙◌}
+use mathlib.Core.Path.{◌≡◌, sym, ap, ◌∙◌}
 use mathlib.Core.List.{List, [], ◌∷◌, ◌++◌}
 use mathlib.Core.Option.{none, some}
-use Rattle.definition.specs.Tools.{Bytes, pick}
-use Rattle.definition.specs.Codec.{Op, Put, Delete}
+use Rattle.definition.specs.Tools.{Bytes}
+use Rattle.definition.specs.Codec.{Op, Put}
 use Rattle.definition.specs.Numbers.{refusal, get_refusal}
 use Rattle.definition.specs.declared.Answer.TheVariants.{Ok}
 use Rattle.definition.specs.declared.GetAnswer.TheVariants as Get

@@ -8,7 +8,7 @@ use native.Mathlib.Omega.{arith}
 use lib.ListN.{length}
 use borrow.Author.Tests.{ltb-true, le-ltb, ne_eqb}
 use Rattle.definition.specs.Tools.{Bytes, pick}
-use Rattle.definition.specs.Region.{Item, item, has_key, fetched, removed, size, span, span_of, used, allowed, items, look, key_limit}
+use Rattle.definition.specs.Region.{Item, item, has_key, fetched, removed, size, span, span_of, used, items, look, key_limit}
 use Rattle.definition.specs.Codec.{Op, batch_limit, long_key, be16, journal_key, encode}
 use Rattle.definition.specs.Program.{flat}
 use Rattle.definition.specs.Recovery.{too_many}

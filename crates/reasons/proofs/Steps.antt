@@ -3,7 +3,6 @@
 -- script moves by it.
 use mathlib.Core.Path.{◌≡◌, refl, sym, ap, ◌∙◌, subst}
 use mathlib.Core.Bool.{Bool, true, false}
-use mathlib.Core.Option.{Option}
 use Prim.Native.Nat.{ℕ, zero, suc, ◌+◌, ◌-◌, ◌%◌, ◌≤◌, ◌<◌}
 use native.Mathlib.Omega.{arith}
 use lib.ListN.{length}
@@ -12,7 +11,7 @@ use borrow.Author.Tests.{ltb-true, ltb-false, lt-ltb, le-ltb}
 use Rattle.definition.specs.Tools.{Bytes, pick}
 use Rattle.definition.specs.Region.{good}
 use Rattle.definition.specs.Script.{word, stepped}
-use Rattle.definition.specs.Program.{Prog, ret, err, see, call, World, world, Result, ok, bad, on, done, ran, exec, flat}
+use Rattle.definition.specs.Program.{Prog, ret, err, see, call, World, world, Result, ok, bad, on, done, ran, exec}
 use Rattle.definition.specs.Calls.{Said, region_fault}
 use Rattle.definition.specs.Public.{Outcome, begin, outcome_of, public, unmounted}
 use Rattle.definition.specs.Public as Public

@@ -3,11 +3,11 @@ use mathlib.Core.Path.{◌≡◌, refl, sym, ap, ◌∙◌, subst}
 use mathlib.Core.Bool.{true}
 use mathlib.Core.List.{List, [], ◌∷◌}
 use mathlib.Core.Option.{Option, none, some}
-use Prim.Native.Nat.{ℕ, ◌-◌, ◌≤◌}
+use Prim.Native.Nat.{ℕ, ◌≤◌}
 use native.Mathlib.Omega.{arith}
 use lib.ListN.{length, drop}
 use Rattle.definition.specs.Tools.{Bytes, opt}
-use Rattle.definition.specs.Region.{Item, item, good, items}
+use Rattle.definition.specs.Region.{Item, good, items}
 use Rattle.definition.specs.Program.{Prog, ret, err, ◌▷◌, world, ok, bad, flat, step}
 use Rattle.definition.specs.Scan.{overlong, keep, pass, window_after}
 use Rattle.definition.specs.declared.Step.{Step}

@@ -1,14 +1,11 @@
 use borrow.Author.Rules.{rules}
-use mathlib.Core.Path.{◌≡◌, refl}
-use Prim.Native.Nat.{◌-◌}
-use lib.ListN.{length}
+use mathlib.Core.Path.{refl}
 use Rattle.definition.specs.Program.{flat}
 use Rattle.definition.specs.Recovery.{land}
 use Rattle.definition.specs.Calls.{apply}
 use Rattle.journal.proofs.Operations.{op_fits_fine}
 use Rattle.oplist.proofs.Walks.{met_op, met_nothing}
-use Rattle.batch.specs.Forms.{Tested}
-use Rattle.batch.proofs.Walking.{tested_op, tested_on, Each, each_start, each_over, each_failed, each_on, apply_turn, apply_over}
+use Rattle.batch.proofs.Walking.{tested_op, tested_on, each_start, each_over, each_failed, each_on, apply_turn, apply_over}
 use Rattle.batch.proofs.apply.Goals as goal
 
 pub loop-kind-init : goal.loop-kind-init

@@ -1,5 +1,4 @@
 use Rattle.batch.proofs.Batching.{applied_done, applied_failed}
-use borrow.Author.Rules.{rules}
 use Rattle.batch.proofs.apply_all.Goals as goal
 
 pub returns-in_default : goal.returns-in_default

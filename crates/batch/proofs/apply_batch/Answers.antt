@@ -1,7 +1,5 @@
 use mathlib.Core.Path.{sym, ◌∙◌}
-use borrow.Author.Tests.{not-true, not-false}
 use Rattle.batch.proofs.Batching.{call_bad, call_good}
-use borrow.Author.Rules.{rules}
 use Rattle.batch.proofs.apply_batch.Goals as goal
 
 pub returns-then-not-is_good : goal.returns-then-not-is_good

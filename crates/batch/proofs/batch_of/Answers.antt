@@ -1,6 +1,5 @@
 use Rattle.batch.proofs.Batching.{batch_malformed, batch_listed}
 use Rattle.oplist.proofs.Walks.{listed_walk, listed_count}
-use borrow.Author.Rules.{rules}
 use Rattle.batch.proofs.batch_of.Goals as goal
 
 pub returns-in_default : goal.returns-in_default

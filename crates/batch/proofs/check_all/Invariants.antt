@@ -1,12 +1,8 @@
-use borrow.Author.Rules.{rules}
-use mathlib.Core.Path.{◌≡◌, refl, sym, ap, ◌∙◌}
+use mathlib.Core.Path.{◌≡◌}
 use Prim.Native.Nat.{◌-◌}
 use lib.ListN.{length}
 use Rattle.definition.specs.Calls.{ops_fault}
-use Rattle.codec.specs.Forms.{checked_of}
 use Rattle.oplist.specs.Places.{Walk, ops_from, ops_in}
-use Rattle.oplist.proofs.Walks.{met_op, met_nothing, walk_on}
-use Rattle.batch.proofs.Walking.{check_over, check_refused, check_on}
 use Rattle.batch.proofs.check_all.Given as goal
 
 abbrev pub invariant-loop-klen : goal.invariant-loop-klen

@@ -1,5 +1,4 @@
 use Rattle.batch.proofs.Walking.{check_many, check_few}
-use borrow.Author.Rules.{rules}
 use Rattle.batch.proofs.check_batch.Goals as goal
 
 pub returns-then-count-gt-BATCH_MAX : goal.returns-then-count-gt-BATCH_MAX

@@ -1,5 +1,4 @@
 use Rattle.batch.proofs.Batching.{commit_done, commit_failed}
-use borrow.Author.Rules.{rules}
 use Rattle.batch.proofs.commit.Goals as goal
 
 pub returns-in_default : goal.returns-in_default

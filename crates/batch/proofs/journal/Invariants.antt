@@ -1,12 +1,10 @@
-use borrow.Author.Rules.{rules}
-use mathlib.Core.Path.{◌≡◌, refl}
+use mathlib.Core.Path.{◌≡◌}
 use Prim.Native.Nat.{◌-◌}
 use lib.ListN.{length}
 use Rattle.definition.specs.Program.{flat}
 use Rattle.definition.specs.Calls.{journal}
-use Rattle.oplist.proofs.Walks.{met_op, met_nothing}
 use Rattle.batch.specs.Forms.{Tested}
-use Rattle.batch.proofs.Walking.{tested_op, tested_on, Each, each_start, each_over, each_failed, each_on, entered, journal_turn, journal_over}
+use Rattle.batch.proofs.Walking.{Each}
 use Rattle.batch.proofs.journal.Given as goal
 
 abbrev pub invariant-loop-kind : goal.invariant-loop-kind

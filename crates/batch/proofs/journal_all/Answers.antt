@@ -1,5 +1,4 @@
 use Rattle.batch.proofs.Batching.{journalled_done, journalled_failed}
-use borrow.Author.Rules.{rules}
 use Rattle.batch.proofs.journal_all.Goals as goal
 
 pub returns-in_default : goal.returns-in_default

@@ -1,5 +1,4 @@
 use Rattle.codec.proofs.Laws.{op_long, op_reserved, op_value_refused, op_fine}
-use borrow.Author.Rules.{rules}
 use Rattle.codec.proofs.check_op.Goals as goal
 
 pub returns-then-len-gt-MAX_LEN : goal.returns-then-len-gt-MAX_LEN

@@ -2,7 +2,6 @@ use mathlib.Core.Path.{◌∙◌}
 use Rattle.codec.proofs.Laws.{fine_bounds, entry_refused, entry_full, entry_made}
 use native.Mathlib.Omega.{arith}
 use lib.ListN.{length-set}
-use borrow.Author.Rules.{rules}
 use Rattle.codec.proofs.encode_entry.Goals as goal
 
 pub returns-in-Refused : goal.returns-in-Refused

@@ -1,5 +1,4 @@
 use Rattle.codec.proofs.Laws.{put_encodes, delete_encodes}
-use borrow.Author.Rules.{rules}
 use Rattle.codec.proofs.encode_op.Goals as goal
 
 pub returns-in-Put : goal.returns-in-Put

@@ -1,6 +1,5 @@
 use Rattle.codec.proofs.Laws.{pad_is}
 use mathlib.Core.Path.{◌∙◌}
-use borrow.Author.Rules.{rules}
 use Rattle.codec.proofs.pad.Goals as goal
 
 pub returns : goal.returns

@@ -1,6 +1,5 @@
 use Rattle.entries.proofs.Entries.{put_inside, delete_inside, put_key, delete_key_part, corrupt_key}
 use native.Mathlib.Omega.{arith}
-use borrow.Author.Rules.{rules}
 use Rattle.entries.proofs.key_part.Goals as goal
 
 pub overflow_add-to : goal.overflow_add-to

@@ -1,6 +1,5 @@
 use Rattle.entries.proofs.Entries.{put_inside, put_value, delete_value, corrupt_value}
 use native.Mathlib.Omega.{arith}
-use borrow.Author.Rules.{rules}
 use Rattle.entries.proofs.value_part.Goals as goal
 
 pub overflow_add-from : goal.overflow_add-from

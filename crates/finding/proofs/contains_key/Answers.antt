@@ -1,6 +1,5 @@
 use Rattle.finding.proofs.Finding.{contains_missed, contains_no, contains_yes}
 use Rattle.gate.proofs.Saying.{as_truth}
-use borrow.Author.Rules.{rules}
 use Rattle.finding.proofs.contains_key.Goals as goal
 
 pub returns-in_default : goal.returns-in_default

@@ -1,6 +1,5 @@
 use Rattle.finding.proofs.Finding.{delete_failed, delete_done}
 use Rattle.gate.proofs.Saying.{as_truth}
-use borrow.Author.Rules.{rules}
 use Rattle.finding.proofs.delete_found.Goals as goal
 
 pub returns-in_default : goal.returns-in_default

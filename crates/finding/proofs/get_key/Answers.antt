@@ -1,6 +1,5 @@
 use Rattle.finding.proofs.Finding.{get_missed, get_absent, get_small, get_found}
 use Rattle.items.proofs.Along.{fetch_inside}
-use borrow.Author.Rules.{rules}
 use Rattle.finding.proofs.get_key.Goals as goal
 
 pub returns-in_default : goal.returns-in_default

@@ -1,6 +1,4 @@
 use Rattle.gate.proofs.Saying.{gate_idle, gate_done, gate_failed}
-use borrow.Author.Tests.{not-true, not-false}
-use borrow.Author.Rules.{rules}
 use Rattle.gate.proofs.converge.Goals as goal
 
 pub returns-then-not-needed : goal.returns-then-not-needed

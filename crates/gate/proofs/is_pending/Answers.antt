@@ -1,6 +1,5 @@
 use mathlib.Core.Path.{sym, ap}
 use Rattle.definition.specs.Calls.{is_pending}
-use borrow.Author.Rules.{rules}
 use Rattle.gate.proofs.is_pending.Goals as goal
 
 pub returns-in-Clean : goal.returns-in-Clean

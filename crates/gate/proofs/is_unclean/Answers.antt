@@ -2,7 +2,6 @@ use mathlib.Core.Path.{sym, ap}
 use mathlib.Core.Bool.{not}
 use Rattle.definition.specs.Calls.{is_clean}
 use Rattle.definition.specs.declared.Health.{Health}
-use borrow.Author.Rules.{rules}
 use Rattle.gate.proofs.is_unclean.Goals as goal
 
 pub returns-in-Debris : goal.returns-in-Debris

@@ -1,6 +1,5 @@
 use mathlib.Core.Path.{ap}
 use Rattle.definition.specs.declared.State.{State}
-use borrow.Author.Rules.{rules}
 use Rattle.gate.proofs.truth.Goals as goal
 
 pub returns : goal.returns

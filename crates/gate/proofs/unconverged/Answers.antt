@@ -1,6 +1,5 @@
 use mathlib.Core.Path.{sym, ap}
 use Rattle.gate.specs.Forms.{unconverged_of}
-use borrow.Author.Rules.{rules}
 use Rattle.gate.proofs.unconverged.Goals as goal
 
 pub returns-in-Failed : goal.returns-in-Failed

@@ -1,6 +1,5 @@
 use mathlib.Core.Path.{sym, ap}
 use Rattle.gate.specs.Forms.{unready_of}
-use borrow.Author.Rules.{rules}
 use Rattle.gate.proofs.why.Goals as goal
 
 pub returns-in-Failed : goal.returns-in-Failed

@@ -1,7 +1,6 @@
 use mathlib.Core.Path.{sym, ap}
 use Rattle.definition.specs.declared.Verdict.{Verdict}
 use Rattle.items.specs.Forms.{answered_of}
-use borrow.Author.Rules.{rules}
 use Rattle.items.proofs.answered.Goals as goal
 
 pub returns-in-Pass : goal.returns-in-Pass

@@ -1,5 +1,4 @@
 use Rattle.items.proofs.Laws.{fetch_missed, fetch_got}
-use borrow.Author.Rules.{rules}
 use Rattle.items.proofs.fetch.Goals as goal
 
 pub returns-in_default : goal.returns-in_default

@@ -1,5 +1,4 @@
 use Rattle.items.proofs.Laws.{next_met, next_unmet}
-use borrow.Author.Rules.{rules}
 use Rattle.items.proofs.iterate_next.Goals as goal
 
 pub returns-in_default : goal.returns-in_default

@@ -1,5 +1,4 @@
 use Rattle.items.proofs.Laws.{step_done, step_failed}
-use borrow.Author.Rules.{rules}
 use Rattle.items.proofs.iterate_open.Goals as goal
 
 pub returns-in_default : goal.returns-in_default

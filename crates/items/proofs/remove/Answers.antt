@@ -1,6 +1,5 @@
 use mathlib.Core.Path.{sym, ◌∙◌}
 use Rattle.items.proofs.Laws.{remove_effect, remove_none}
-use borrow.Author.Rules.{rules}
 use Rattle.items.proofs.remove.Goals as goal
 
 pub returns-then-takes_effect : goal.returns-then-takes_effect

@@ -1,6 +1,5 @@
 use mathlib.Core.Path.{sym, ap}
 use Rattle.items.specs.Forms.{stopped_of}
-use borrow.Author.Rules.{rules}
 use Rattle.items.proofs.stopped.Goals as goal
 
 pub returns-in-Unmet : goal.returns-in-Unmet

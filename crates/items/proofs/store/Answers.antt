@@ -1,5 +1,4 @@
 use Rattle.items.proofs.Laws.{store_done, store_full, store_failed_on, store_failed_full, store_failed}
-use borrow.Author.Rules.{rules}
 use Rattle.items.proofs.store.Goals as goal
 
 pub returns-in_default-stored : goal.returns-in_default-stored

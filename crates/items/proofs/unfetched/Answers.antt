@@ -1,6 +1,5 @@
 use mathlib.Core.Path.{sym, ap}
 use Rattle.items.specs.Forms.{unfetched_of}
-use borrow.Author.Rules.{rules}
 use Rattle.items.proofs.unfetched.Goals as goal
 
 pub returns-in-Missed : goal.returns-in-Missed

@@ -1,6 +1,5 @@
 use mathlib.Core.Path.{sym, ap}
 use Rattle.items.specs.Forms.{failure_of}
-use borrow.Author.Rules.{rules}
 use Rattle.items.proofs.why.Goals as goal
 
 pub returns-in-Failed : goal.returns-in-Failed

@@ -1,5 +1,4 @@
 use Rattle.journal.proofs.Committing.{finish_done, finish_failed}
-use borrow.Author.Rules.{rules}
 use Rattle.journal.proofs.finish.Goals as goal
 
 pub returns-in_default : goal.returns-in_default

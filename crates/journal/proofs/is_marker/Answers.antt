@@ -1,5 +1,4 @@
 use Rattle.journal.proofs.Committing.{no_marker, some_marker, spot_inside}
-use borrow.Author.Rules.{rules}
 use Rattle.journal.proofs.is_marker.Goals as goal
 
 pub returns-in_default : goal.returns-in_default

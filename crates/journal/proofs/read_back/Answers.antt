@@ -1,5 +1,4 @@
 use Rattle.journal.proofs.Committing.{got_inside, back_uncertain, back_committed, back_other}
-use borrow.Author.Rules.{rules}
 use Rattle.journal.proofs.read_back.Goals as goal
 
 pub returns-in_default : goal.returns-in_default

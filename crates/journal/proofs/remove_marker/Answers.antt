@@ -1,5 +1,4 @@
 use Rattle.journal.proofs.Committing.{marker_removed}
-use borrow.Author.Rules.{rules}
 use Rattle.journal.proofs.remove_marker.Goals as goal
 
 pub returns : goal.returns

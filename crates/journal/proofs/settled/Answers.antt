@@ -1,5 +1,4 @@
 use Rattle.journal.proofs.Committing.{settled_stays, settled_else}
-use borrow.Author.Rules.{rules}
 use Rattle.journal.proofs.settled.Goals as goal
 
 pub returns-then-number-eq13 : goal.returns-then-number-eq13

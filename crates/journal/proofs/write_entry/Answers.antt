@@ -1,7 +1,6 @@
 use Prim.Native.Nat.{ℕ}
 use lib.ListN.{length-replicate}
 use Rattle.journal.proofs.Operations.{never_refused, entry_within, entry_length, entry_allowed, entry_stored}
-use borrow.Author.Rules.{rules}
 use Rattle.journal.proofs.write_entry.Goals as goal
 
 pub returns-in_default : goal.returns-in_default

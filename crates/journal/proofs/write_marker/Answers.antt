@@ -1,5 +1,4 @@
 use Rattle.journal.proofs.Committing.{marker_allowed, marker_stored}
-use borrow.Author.Rules.{rules}
 use Rattle.journal.proofs.write_marker.Goals as goal
 
 pub store-requires : goal.store-requires

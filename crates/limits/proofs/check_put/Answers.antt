@@ -1,5 +1,4 @@
 use Rattle.limits.proofs.Testing.{put_value, put_reserved, put_key, put_fine}
-use borrow.Author.Rules.{rules}
 use Rattle.limits.proofs.check_put.Goals as goal
 
 pub returns-then-value-gt-MAX_VALUE_LEN : goal.returns-then-value-gt-MAX_VALUE_LEN

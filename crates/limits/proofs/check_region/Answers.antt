@@ -1,6 +1,5 @@
 use Rattle.limits.proofs.Testing.{region_high, region_start, region_end, region_small, region_fine}
 use native.Mathlib.Omega.{arith}
-use borrow.Author.Rules.{rules}
 use Rattle.limits.proofs.check_region.Goals as goal
 
 pub returns-then-len-ge-ADDRESS_END : goal.returns-then-len-ge-ADDRESS_END

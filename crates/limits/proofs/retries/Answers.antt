@@ -1,5 +1,4 @@
 use Rattle.limits.proofs.Testing.{retry_clean, retry_debris, retry_pending}
-use borrow.Author.Rules.{rules}
 use Rattle.limits.proofs.retries.Goals as goal
 
 pub returns-in-Clean : goal.returns-in-Clean

@@ -1,5 +1,4 @@
 use Rattle.limits.proofs.Testing.{unstorable_reserved, unstorable_long}
-use borrow.Author.Rules.{rules}
 use Rattle.limits.proofs.unstorable.Goals as goal
 
 pub returns-then-reserved : goal.returns-then-reserved

@@ -1,7 +1,6 @@
 use mathlib.Core.Path.{ap}
 use Rattle.definition.specs.declared.State.{State}
 use Rattle.scan.specs.Forms.{scanned_of}
-use borrow.Author.Rules.{rules}
 use Rattle.listing.proofs.reply_of.Goals as goal
 
 pub returns : goal.returns

@@ -1,7 +1,5 @@
 use mathlib.Core.Path.{sym, ◌∙◌}
-use borrow.Author.Tests.{not-true, not-false}
 use Rattle.listing.proofs.Listing.{scan_bad, scan_unready, scan_listed}
-use borrow.Author.Rules.{rules}
 use Rattle.listing.proofs.scan_prefix.Goals as goal
 
 pub returns-then-not-is_good : goal.returns-then-not-is_good

@@ -1,5 +1,4 @@
 use Rattle.marks.proofs.Marks.{marker_long, marker_torn, marker_counts}
-use borrow.Author.Rules.{rules}
 use Rattle.marks.proofs.decode_marker.Goals as goal
 
 pub returns-then-sum : goal.returns-then-sum

@@ -1,6 +1,5 @@
 use mathlib.Core.Path.{refl}
 use Rattle.definition.specs.Codec.{marker, be16}
-use borrow.Author.Rules.{rules}
 use Rattle.marks.proofs.encode_marker.Goals as goal
 
 pub returns : goal.returns

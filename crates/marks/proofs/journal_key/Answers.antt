@@ -1,6 +1,5 @@
 use mathlib.Core.Path.{refl}
 use Rattle.definition.specs.Codec.{journal_key, be16}
-use borrow.Author.Rules.{rules}
 use Rattle.marks.proofs.journal_key.Goals as goal
 
 pub returns : goal.returns

@@ -1,5 +1,4 @@
 use Rattle.marks.proofs.Marks.{reserved_none, reserved_some}
-use borrow.Author.Rules.{rules}
 use Rattle.marks.proofs.reserved.Goals as goal
 
 pub returns-then-key-eq0 : goal.returns-then-key-eq0

@@ -1,4 +1,3 @@
-use borrow.Author.Rules.{rules}
 use mathlib.Core.Path.{sym, ◌∙◌}
 use Rattle.definition.specs.Space.{user_count}
 use Rattle.definition.proofs.Choices.{pick_yes, pick_no}

@@ -1,6 +1,5 @@
 use mathlib.Core.Path.{sym, ap}
 use Rattle.definition.specs.Numbers.{capacity_kind}
-use borrow.Author.Rules.{rules}
 use Rattle.numbers.proofs.capacity_kind.Goals as goal
 
 pub returns-in-Key : goal.returns-in-Key

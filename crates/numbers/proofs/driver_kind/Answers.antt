@@ -1,6 +1,5 @@
 use mathlib.Core.Path.{sym, ap}
 use Rattle.definition.specs.Numbers.{driver_kind}
-use borrow.Author.Rules.{rules}
 use Rattle.numbers.proofs.driver_kind.Goals as goal
 
 pub returns-in-NotAligned : goal.returns-in-NotAligned

@@ -1,7 +1,6 @@
 use mathlib.Core.Path.{sym, ap}
 use Rattle.numbers.specs.Forms.{journal_three}
 use Rattle.definition.specs.Numbers.{journal_values}
-use borrow.Author.Rules.{rules}
 use Rattle.numbers.proofs.journal_values.Goals as goal
 
 pub returns-in-MarkerCount : goal.returns-in-MarkerCount

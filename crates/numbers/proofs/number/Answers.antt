@@ -1,6 +1,5 @@
 use mathlib.Core.Path.{sym, ap}
 use Rattle.definition.specs.Numbers.{number}
-use borrow.Author.Rules.{rules}
 use Rattle.numbers.proofs.number.Goals as goal
 
 pub returns-in-BadRegion : goal.returns-in-BadRegion

@@ -1,6 +1,5 @@
 use mathlib.Core.Path.{sym, ap}
 use Rattle.definition.specs.Numbers.{region_kind}
-use borrow.Author.Rules.{rules}
 use Rattle.numbers.proofs.region_kind.Goals as goal
 
 pub returns-in-TooHigh : goal.returns-in-TooHigh

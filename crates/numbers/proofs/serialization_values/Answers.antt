@@ -1,7 +1,6 @@
 use mathlib.Core.Path.{sym, ap}
 use Rattle.numbers.specs.Forms.{serialization_three}
 use Rattle.definition.specs.Numbers.{serialization_values}
-use borrow.Author.Rules.{rules}
 use Rattle.numbers.proofs.serialization_values.Goals as goal
 
 pub returns-in-BufferTooSmall : goal.returns-in-BufferTooSmall

@@ -2,7 +2,6 @@ use mathlib.Core.Path.{sym, ap, ◌∙◌}
 use Prim.Native.Nat.{ℕ}
 use Rattle.numbers.specs.Forms.{three_of, values_three, serialization_three, journal_three}
 use Rattle.definition.specs.Numbers.{values}
-use borrow.Author.Rules.{rules}
 use Rattle.numbers.proofs.values.Goals as goal
 
 pub returns-in-BadRegion : goal.returns-in-BadRegion

@@ -1,6 +1,4 @@
-use borrow.Author.Tests.{not-true, not-false}
 use Rattle.operations.proofs.Beginning.{begin_bad, begin_empty, begin_some}
-use borrow.Author.Rules.{rules}
 use Rattle.operations.proofs.begin.Goals as goal
 
 pub returns-then-not-is_good : goal.returns-then-not-is_good

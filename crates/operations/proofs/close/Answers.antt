@@ -1,5 +1,4 @@
 use Rattle.operations.proofs.Coming.{close_failed, close_done}
-use borrow.Author.Rules.{rules}
 use Rattle.operations.proofs.close.Goals as goal
 
 pub returns-in_default : goal.returns-in_default

@@ -1,5 +1,4 @@
 use Rattle.operations.proofs.Coming.{marker_failed, marker_done}
-use borrow.Author.Rules.{rules}
 use Rattle.operations.proofs.commit.Goals as goal
 
 pub returns-in_default : goal.returns-in_default

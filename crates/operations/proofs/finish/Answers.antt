@@ -1,5 +1,4 @@
 use Rattle.operations.proofs.Coming.{finish_done}
-use borrow.Author.Rules.{rules}
 use Rattle.operations.proofs.finish.Goals as goal
 
 pub returns : goal.returns

@@ -1,5 +1,4 @@
 use Rattle.operations.proofs.Turning.{fits}
-use borrow.Author.Rules.{rules}
 use Rattle.operations.proofs.one.Goals as goal
 
 pub returns-in-Shape : goal.returns-in-Shape

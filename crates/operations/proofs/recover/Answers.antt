@@ -1,5 +1,4 @@
 use Rattle.operations.proofs.Coming.{recover_failed, recover_done}
-use borrow.Author.Rules.{rules}
 use Rattle.operations.proofs.recover.Goals as goal
 
 pub returns-in_default : goal.returns-in_default

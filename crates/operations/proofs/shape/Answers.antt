@@ -1,6 +1,4 @@
-use borrow.Author.Tests.{not-true, not-false}
 use Rattle.operations.proofs.Turning.{shape_refused, shape_on, shape_many, shape_done}
-use borrow.Author.Rules.{rules}
 use Rattle.operations.proofs.shape.Goals as goal
 
 pub returns-then-not-is_op : goal.returns-then-not-is_op

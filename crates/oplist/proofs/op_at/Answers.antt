@@ -1,6 +1,5 @@
 use native.Mathlib.Omega.{arith}
 use Rattle.oplist.proofs.Lists.{is_short, is_cut, is_put, is_delete, is_neither}
-use borrow.Author.Rules.{rules}
 use Rattle.oplist.proofs.op_at.Goals as goal
 
 pub returns-then-list-at : goal.returns-then-list-at

@@ -1,10 +1,6 @@
 use borrow.Author.Rules.{rules}
-use mathlib.Core.Path.{◌≡◌, sym, ◌∙◌}
-use Prim.Native.Nat.{◌-◌, ◌≤◌}
-use lib.ListN.{length, drop}
-use Rattle.definition.specs.OperationList.{ops_of}
-use Rattle.oplist.specs.Places.{shape_of}
-use Rattle.oplist.proofs.Walks.{met_op, met_nothing, counted, counted_start, counted_on, counted_off, counted_end}
+use mathlib.Core.Path.{sym, ◌∙◌}
+use Rattle.oplist.proofs.Walks.{met_op, met_nothing, counted_start, counted_on, counted_off, counted_end}
 use Rattle.oplist.proofs.shape_of.Goals as goal
 
 pub loop-at-init : goal.loop-at-init

@@ -1,10 +1,9 @@
-use borrow.Author.Rules.{rules}
-use mathlib.Core.Path.{◌≡◌, sym, ◌∙◌}
+use mathlib.Core.Path.{◌≡◌}
 use Prim.Native.Nat.{◌-◌, ◌≤◌}
 use lib.ListN.{length, drop}
 use Rattle.definition.specs.OperationList.{ops_of}
 use Rattle.oplist.specs.Places.{shape_of}
-use Rattle.oplist.proofs.Walks.{met_op, met_nothing, counted, counted_start, counted_on, counted_off, counted_end}
+use Rattle.oplist.proofs.Walks.{counted}
 use Rattle.oplist.proofs.shape_of.Given as goal
 
 abbrev pub invariant-loop-at : goal.invariant-loop-at

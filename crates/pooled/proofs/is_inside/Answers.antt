@@ -1,5 +1,4 @@
 use Rattle.pooled.proofs.Naming.{part_beyond, part_is}
-use borrow.Author.Rules.{rules}
 use Rattle.pooled.proofs.is_inside.Goals as goal
 
 pub returns-then-pool-at : goal.returns-then-pool-at

@@ -1,6 +1,4 @@
-use borrow.Author.Tests.{not-true, not-false}
 use Rattle.pooled.proofs.Naming.{key_outside, value_outside, kind_decides}
-use borrow.Author.Rules.{rules}
 use Rattle.pooled.proofs.is_op.Goals as goal
 
 pub returns-then-not-is_inside : goal.returns-then-not-is_inside

@@ -1,8 +1,8 @@
 use borrow.Author.Rules.{rules}
-use mathlib.Core.Path.{◌≡◌, refl, sym, ap, ◌∙◌}
-use Prim.Native.Nat.{◌+◌, ◌-◌, ◌%◌, ◌<◌, ◌≤◌}
-use lib.ListN.{length, drop}
-use Rattle.prints.specs.Prints.{word, hash_from, hash_of, finished}
+use mathlib.Core.Path.{refl, sym, ap, ◌∙◌}
+use Prim.Native.Nat.{◌+◌}
+use lib.ListN.{drop}
+use Rattle.prints.specs.Prints.{hash_from, hash_of, finished}
 use Rattle.prints.proofs.Hashes.{hash_two, hash_one, hash_over}
 use Rattle.prints.proofs.hash.Goals as goal
 

@@ -1,9 +1,7 @@
-use borrow.Author.Rules.{rules}
-use mathlib.Core.Path.{◌≡◌, refl, sym, ap, ◌∙◌}
-use Prim.Native.Nat.{◌+◌, ◌-◌, ◌%◌, ◌<◌, ◌≤◌}
+use mathlib.Core.Path.{◌≡◌}
+use Prim.Native.Nat.{◌-◌, ◌%◌, ◌<◌, ◌≤◌}
 use lib.ListN.{length, drop}
-use Rattle.prints.specs.Prints.{word, hash_from, hash_of, finished}
-use Rattle.prints.proofs.Hashes.{hash_two, hash_one, hash_over}
+use Rattle.prints.specs.Prints.{word, hash_from}
 use Rattle.prints.proofs.hash.Given as goal
 
 abbrev pub invariant-loop-i : goal.invariant-loop-i

@@ -1,9 +1,8 @@
 use borrow.Author.Rules.{rules}
-use mathlib.Core.Path.{◌≡◌, refl, ap}
-use Prim.Native.Nat.{◌-◌, ◌<◌}
+use mathlib.Core.Path.{refl, ap}
+use Prim.Native.Nat.{◌<◌}
 use lib.ListN.{length}
-use Rattle.prints.specs.Prints.{first_place}
-use Rattle.prints.proofs.Tables.{Along, along_first, along_next, along_hit, along_over, noted_new, noted_old}
+use Rattle.prints.proofs.Tables.{along_first, along_next, along_hit, along_over, noted_new, noted_old}
 use Rattle.prints.proofs.note.Goals as goal
 
 pub loop-i-init : goal.loop-i-init

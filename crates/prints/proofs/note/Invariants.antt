@@ -1,9 +1,7 @@
-use borrow.Author.Rules.{rules}
-use mathlib.Core.Path.{◌≡◌, refl, ap}
-use Prim.Native.Nat.{◌-◌, ◌<◌}
-use lib.ListN.{length}
+use mathlib.Core.Path.{◌≡◌}
+use Prim.Native.Nat.{◌-◌}
 use Rattle.prints.specs.Prints.{first_place}
-use Rattle.prints.proofs.Tables.{Along, along_first, along_next, along_hit, along_over, noted_new, noted_old}
+use Rattle.prints.proofs.Tables.{Along}
 use Rattle.prints.proofs.note.Given as goal
 
 abbrev pub invariant-loop-i : goal.invariant-loop-i

@@ -1,7 +1,5 @@
 use Rattle.putting.proofs.Putting.{again_not, again_unready, again_on}
 use Rattle.gate.proofs.Saying.{as_reply}
-use borrow.Author.Tests.{not-true, not-false}
-use borrow.Author.Rules.{rules}
 use Rattle.putting.proofs.put_again.Goals as goal
 
 pub returns-then-not-retries : goal.returns-then-not-retries

@@ -1,7 +1,6 @@
 use Rattle.putting.proofs.Putting.{put_refused, put_stored, put_else, put_once_says}
 use Rattle.limits.proofs.Testing.{fine_allowed}
 use Rattle.gate.proofs.Saying.{as_reply, says_ret}
-use borrow.Author.Rules.{rules}
 use Rattle.putting.proofs.put_once.Goals as goal
 
 pub returns-in-Refused : goal.returns-in-Refused

@@ -1,4 +1,3 @@
-use borrow.Author.Rules.{rules}
 use native.Mathlib.Omega.{arith}
 use Rattle.records.proofs.Heads.{disagrees, disagrees_first, ninth}
 use Rattle.records.proofs.agrees.Goals as goal

@@ -1,8 +1,8 @@
 use borrow.Author.Rules.{rules}
 use Prim.Native.Nat.{ℕ, ◌-◌}
 use mathlib.Core.Path.{sym}
-use lib.ListN.{length, replicate, length-replicate, get_or-replicate}
-use Rattle.slices.proofs.Copying.{Copied, copied_none, copied_more, filled}
+use lib.ListN.{length, length-replicate, get_or-replicate}
+use Rattle.slices.proofs.Copying.{copied_none, copied_more, filled}
 use Rattle.records.proofs.erase_from.Goals as goal
 
 pub loop-erased-init : goal.loop-erased-init

@@ -1,8 +1,6 @@
-use borrow.Author.Rules.{rules}
-use Prim.Native.Nat.{ℕ, ◌-◌}
-use mathlib.Core.Path.{sym}
-use lib.ListN.{length, replicate, length-replicate, get_or-replicate}
-use Rattle.slices.proofs.Copying.{Copied, copied_none, copied_more, filled}
+use Prim.Native.Nat.{◌-◌}
+use lib.ListN.{length, replicate}
+use Rattle.slices.proofs.Copying.{Copied}
 use Rattle.records.proofs.erase_from.Given as goal
 
 abbrev pub invariant-loop-erased : goal.invariant-loop-erased

@@ -1,4 +1,3 @@
-use borrow.Author.Rules.{rules}
 use Rattle.definition.specs.Region
 use Rattle.definition.specs.Region.{le16, le32}
 use Rattle.records.proofs.header.Goals as goal

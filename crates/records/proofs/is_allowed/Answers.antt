@@ -1,4 +1,3 @@
-use borrow.Author.Rules.{rules}
 use mathlib.Core.Path.{sym}
 use Rattle.definition.proofs.Records.{allowed_long_key, allowed_rest}
 use Rattle.records.proofs.is_allowed.Goals as goal

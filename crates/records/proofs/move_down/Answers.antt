@@ -2,9 +2,9 @@ use borrow.Author.Rules.{rules}
 use Prim.Native.Nat.{◌-◌}
 use native.Mathlib.Omega.{arith}
 use mathlib.Core.Path.{sym, ◌∙◌}
-use lib.ListN.{length, drop, length-drop}
+use lib.ListN.{length, length-drop}
 use lib.Seq.{get_or-drop}
-use Rattle.slices.proofs.Copying.{Copied, copied_none, copied_more, copied_ahead, copied_all}
+use Rattle.slices.proofs.Copying.{copied_none, copied_more, copied_ahead, copied_all}
 use Rattle.records.proofs.move_down.Goals as goal
 
 pub loop-moved-init : goal.loop-moved-init

@@ -1,10 +1,6 @@
-use borrow.Author.Rules.{rules}
 use Prim.Native.Nat.{◌-◌}
-use native.Mathlib.Omega.{arith}
-use mathlib.Core.Path.{sym, ◌∙◌}
-use lib.ListN.{length, drop, length-drop}
-use lib.Seq.{get_or-drop}
-use Rattle.slices.proofs.Copying.{Copied, copied_none, copied_more, copied_ahead, copied_all}
+use lib.ListN.{length, drop}
+use Rattle.slices.proofs.Copying.{Copied}
 use Rattle.records.proofs.move_down.Given as goal
 
 abbrev pub invariant-loop-moved : goal.invariant-loop-moved

@@ -1,4 +1,3 @@
-use borrow.Author.Rules.{rules}
 use Rattle.records.proofs.Copying.{cut_is}
 use Rattle.records.proofs.take_out.Goals as goal
 

@@ -1,5 +1,4 @@
 use Rattle.recovery.proofs.Entries.{put_fits, acts_put, acts_delete}
-use borrow.Author.Rules.{rules}
 use Rattle.recovery.proofs.act.Goals as goal
 
 pub store-requires : goal.store-requires

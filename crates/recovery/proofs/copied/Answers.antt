@@ -1,5 +1,4 @@
 use Rattle.recovery.proofs.Entries.{copy_is}
-use borrow.Author.Rules.{rules}
 use Rattle.recovery.proofs.copied.Goals as goal
 
 pub returns : goal.returns

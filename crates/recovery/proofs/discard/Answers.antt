@@ -1,4 +1,3 @@
-use borrow.Author.Rules.{rules}
 use Rattle.recovery.proofs.Sweeping.{discard_failed, discard_on}
 use Rattle.recovery.proofs.discard.Goals as goal
 

@@ -1,14 +1,8 @@
-use borrow.Author.Rules.{rules}
-use Rattle.recovery.proofs.Sweeping.{Dropping, dropping_start, dropped_all, drop_failed, drop_on, drop_less}
+use Rattle.recovery.proofs.Sweeping.{dropping_start, dropped_all, drop_failed, drop_on, drop_less}
 use Rattle.region.proofs.Answers.{first_inside}
 use Rattle.recovery.proofs.Entries.{copied_length}
-use Prim.Native.Nat.{◌-◌}
-use mathlib.Core.Path.{◌≡◌, refl}
+use mathlib.Core.Path.{refl}
 use native.Mathlib.Omega.{arith}
-use lib.ListN.{length}
-use Rattle.definition.specs.Region.{items}
-use Rattle.definition.specs.Space.{space_of}
-use Rattle.definition.specs.Recovery.{journal_keys}
 use Rattle.items.proofs.Laws.{remove_wrote}
 use Rattle.recovery.proofs.drop_each.Goals as goal
 

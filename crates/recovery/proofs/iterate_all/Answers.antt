@@ -1,8 +1,6 @@
 use borrow.Author.Rules.{rules}
-use Rattle.recovery.proofs.Sweeping.{Iterating, iterating_start, not_opened, opened, iterate_failed, iterate_over, iterate_met, iterate_on}
-use Prim.Native.Nat.{◌-◌, ◌≤◌}
+use Rattle.recovery.proofs.Sweeping.{iterating_start, not_opened, opened, iterate_failed, iterate_over, iterate_met, iterate_on}
 use native.Mathlib.Omega.{arith}
-use lib.ListN.{length}
 use Rattle.recovery.proofs.iterate_all.Goals as goal
 
 pub returns-in_default : goal.returns-in_default

@@ -1,7 +1,5 @@
-use borrow.Author.Rules.{rules}
-use Rattle.recovery.proofs.Sweeping.{Iterating, iterating_start, not_opened, opened, iterate_failed, iterate_over, iterate_met, iterate_on}
+use Rattle.recovery.proofs.Sweeping.{Iterating}
 use Prim.Native.Nat.{◌-◌, ◌≤◌}
-use native.Mathlib.Omega.{arith}
 use lib.ListN.{length}
 use Rattle.recovery.proofs.iterate_all.Given as goal
 

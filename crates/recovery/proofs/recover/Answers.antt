@@ -1,7 +1,5 @@
-use borrow.Author.Rules.{rules}
 use Rattle.recovery.proofs.Recovering.{recover_missed, recover_none, recover_some}
 use Rattle.items.proofs.Along.{fetch_inside}
-use Prim.Native.Nat.{◌-◌}
 use Rattle.recovery.proofs.recover.Goals as goal
 
 pub returns-in_default : goal.returns-in_default

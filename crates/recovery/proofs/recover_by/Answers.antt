@@ -1,8 +1,6 @@
 use mathlib.Core.Path.{subst}
 use Rattle.marks.specs.Forms.{Short}
-use borrow.Author.Rules.{rules}
 use Rattle.recovery.proofs.Recovering.{unread_failed, unread_on, count_refused, count_on}
-use Prim.Native.Nat.{◌-◌}
 use native.Mathlib.Omega.{arith}
 use Rattle.recovery.proofs.recover_by.Goals as goal
 

@@ -1,8 +1,6 @@
 use Rattle.recovery.proofs.Entries.{redo_failed, redo_absent, redo_present, copied_length}
 use Rattle.items.proofs.Along.{fetch_inside}
-use Prim.Native.Nat.{◌-◌}
 use native.Mathlib.Omega.{arith}
-use borrow.Author.Rules.{rules}
 use Rattle.recovery.proofs.redo.Goals as goal
 
 pub returns-in_default : goal.returns-in_default

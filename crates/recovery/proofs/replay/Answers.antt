@@ -1,8 +1,6 @@
 use borrow.Author.Rules.{rules}
-use Rattle.recovery.proofs.Replaying.{Replaying, replay_start, replay_on, replay_failed, replay_end}
-use Prim.Native.Nat.{◌-◌, ◌≤◌}
-use mathlib.Core.Path.{◌≡◌, refl}
-use lib.ListN.{length}
+use Rattle.recovery.proofs.Replaying.{replay_start, replay_on, replay_failed, replay_end}
+use mathlib.Core.Path.{refl}
 use Rattle.recovery.proofs.replay.Goals as goal
 
 pub loop-index-init : goal.loop-index-init

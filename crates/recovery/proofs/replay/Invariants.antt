@@ -1,7 +1,6 @@
-use borrow.Author.Rules.{rules}
-use Rattle.recovery.proofs.Replaying.{Replaying, replay_start, replay_on, replay_failed, replay_end}
+use Rattle.recovery.proofs.Replaying.{Replaying}
 use Prim.Native.Nat.{◌-◌, ◌≤◌}
-use mathlib.Core.Path.{◌≡◌, refl}
+use mathlib.Core.Path.{◌≡◌}
 use lib.ListN.{length}
 use Rattle.recovery.proofs.replay.Given as goal
 

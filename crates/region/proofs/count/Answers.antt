@@ -1,9 +1,6 @@
 use borrow.Author.Rules.{rules}
-use mathlib.Core.Path.{◌≡◌, sym, ◌∙◌}
-use Prim.Native.Nat.{◌+◌, ◌-◌, ◌≤◌}
+use mathlib.Core.Path.{sym, ◌∙◌}
 use native.Mathlib.Nat.{zero-add}
-use lib.ListN.{length, drop}
-use Rattle.definition.specs.Region.{items}
 use Rattle.region.specs.Places.{Met}
 use Rattle.region.proofs.Answers.{met_item, met_nothing}
 use Rattle.region.proofs.Walks.{met_count, count_stop}

@@ -1,12 +1,7 @@
-use borrow.Author.Rules.{rules}
-use mathlib.Core.Path.{◌≡◌, sym, ◌∙◌}
+use mathlib.Core.Path.{◌≡◌}
 use Prim.Native.Nat.{◌+◌, ◌-◌, ◌≤◌}
-use native.Mathlib.Nat.{zero-add}
 use lib.ListN.{length, drop}
 use Rattle.definition.specs.Region.{items}
-use Rattle.region.specs.Places.{Met}
-use Rattle.region.proofs.Answers.{met_item, met_nothing}
-use Rattle.region.proofs.Walks.{met_count, count_stop}
 use Rattle.region.proofs.count.Given as goal
 
 abbrev pub invariant-loop-next : goal.invariant-loop-next

@@ -1,10 +1,6 @@
 use borrow.Author.Rules.{rules}
-use mathlib.Core.Path.{◌≡◌, refl, sym, ◌∙◌}
-use mathlib.Core.Bool.{true}
-use Prim.Native.Nat.{◌-◌}
-use lib.ListN.{length, drop}
-use Rattle.definition.specs.Region.{items, whole}
-use Rattle.region.specs.Places.{Met, place_of}
+use mathlib.Core.Path.{refl, sym, ◌∙◌}
+use Rattle.region.specs.Places.{Met}
 use Rattle.region.proofs.Answers.{met_item, met_nothing}
 use Rattle.region.proofs.Walks.{met_whole, place_hit, place_miss, place_stop}
 use Rattle.region.proofs.find.Goals as goal

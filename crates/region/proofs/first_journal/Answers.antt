@@ -1,12 +1,7 @@
 use borrow.Author.Rules.{rules}
-use mathlib.Core.Path.{◌≡◌, refl, sym, ◌∙◌}
-use mathlib.Core.Bool.{true}
-use Prim.Native.Nat.{◌-◌}
-use lib.ListN.{length, drop}
-use Rattle.definition.specs.Region.{items, whole}
+use mathlib.Core.Path.{refl, sym, ◌∙◌}
 use Rattle.definition.proofs.Image.{good_parts}
-use Rattle.definition.specs.Recovery.{journal_keys}
-use Rattle.region.specs.Places.{Met, first_of}
+use Rattle.region.specs.Places.{Met}
 use Rattle.region.proofs.Answers.{met_item, met_nothing}
 use Rattle.region.proofs.Walks.{met_whole}
 use Rattle.region.proofs.Journals.{first_stop, first_hit, first_miss}

@@ -1,11 +1,7 @@
 use borrow.Author.Rules.{rules}
 use mathlib.Core.Path.{◌≡◌, sym}
-use Prim.Native.Nat.{ℕ, ◌-◌, ◌≤◌, ◌<◌}
 use native.Mathlib.Omega.{arith}
 use borrow.Author.Count.{below_none, below_more}
-use borrow.Author.Tests.{not-true, not-false}
-use Rattle.definition.specs.Region.{items}
-use Rattle.region.specs.Classes.{NewIn, back}
 use Rattle.region.proofs.Classes.{every_class}
 use Rattle.region.proofs.is_distinct.Goals as goal
 

@@ -1,13 +1,12 @@
 use borrow.Author.Rules.{rules}
 use mathlib.Core.Path.{refl}
-use Prim.Native.Nat.{ℕ, ◌-◌}
-use borrow.Author.Tests.{not-true, not-false}
-use lib.ListN.{length, length-replicate}
+use Prim.Native.Nat.{ℕ}
+use lib.ListN.{length-replicate}
 use Rattle.definition.proofs.Choices.{true≢false}
 use Rattle.prints.specs.Prints.{table_size}
 use Rattle.region.specs.Places.{Met}
 use Rattle.region.proofs.Answers.{met_item, met_nothing}
-use Rattle.region.proofs.Classes.{Walked, walked_first, walked_whole, walked_stop, walked_twice, walked_next}
+use Rattle.region.proofs.Classes.{walked_first, walked_whole, walked_stop, walked_twice, walked_next}
 use Rattle.region.proofs.is_distinct_in.Goals as goal
 
 pub loop-klen-init : goal.loop-klen-init

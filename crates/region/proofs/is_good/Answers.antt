@@ -3,7 +3,6 @@ use mathlib.Core.Bool.{true}
 use Rattle.definition.specs.Region.{whole, good}
 use Rattle.definition.proofs.Choices.{picked, passed}
 use Rattle.region.specs.Classes.{is_swept}
-use borrow.Author.Rules.{rules}
 use Rattle.region.proofs.is_good.Goals as goal
 
 pub returns-in_default : goal.returns-in_default

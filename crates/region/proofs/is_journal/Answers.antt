@@ -1,4 +1,3 @@
-use borrow.Author.Rules.{rules}
 use Rattle.region.proofs.Journals.{not_four, not_zero, last_test}
 use Rattle.region.proofs.is_journal.Goals as goal
 

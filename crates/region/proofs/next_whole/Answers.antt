@@ -1,4 +1,4 @@
-use mathlib.Core.Path.{ap, refl}
+use mathlib.Core.Path.{ap}
 use Prim.Native.Nat.{◌+◌}
 use Rattle.region.specs.Places.{Met}
 use Rattle.region.proofs.Heads.{is_short}

@@ -1,4 +1,3 @@
-use borrow.Author.Rules.{rules}
 use mathlib.Core.Path.{sym, ap, subst, ◌∙◌}
 use Rattle.region.specs.Places.{Short, span_found}
 use Rattle.region.proofs.old_span.Goals as goal

@@ -1,4 +1,3 @@
-use borrow.Author.Rules.{rules}
 use Rattle.definition.proofs.Image.{good_parts}
 use Rattle.region.proofs.remove.Goals as goal
 

@@ -1,11 +1,6 @@
 use borrow.Author.Rules.{rules}
-use mathlib.Core.Path.{◌≡◌, sym, ap, ◌∙◌}
-use Prim.Native.Nat.{◌+◌, ◌-◌, ◌≤◌}
+use mathlib.Core.Path.{sym, ap, ◌∙◌}
 use native.Mathlib.Nat.{zero-add}
-use lib.ListN.{length, drop}
-use Rattle.definition.specs.Region
-use Rattle.definition.specs.Region.{items}
-use Rattle.definition.specs.Space
 use Rattle.region.specs.Places.{Met}
 use Rattle.definition.specs.Space.{user_count}
 use Rattle.region.proofs.Answers.{met_item, met_nothing}

@@ -1,10 +1,7 @@
 use borrow.Author.Rules.{rules}
 use mathlib.Core.Path.{ap, ◌∙◌}
-use Prim.Native.Nat.{◌-◌}
-use lib.ListN.{length}
 use Rattle.definition.specs.Space.{user_count}
 use Rattle.region.specs.Places.{Met}
-use Rattle.region.specs.Changes.{Counted}
 use Rattle.region.proofs.Answers.{met_item, met_nothing}
 use Rattle.region.proofs.Walks.{user_small, counted_next, counted_stop}
 use Rattle.region.proofs.space_from.Goals as goal

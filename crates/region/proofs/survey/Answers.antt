@@ -1,10 +1,8 @@
 use borrow.Author.Rules.{rules}
-use mathlib.Core.Path.{◌≡◌, refl, sym, ap, ◌∙◌}
-use Prim.Native.Nat.{◌+◌, ◌-◌}
-use lib.ListN.{length, drop}
-use Rattle.definition.specs.Region.{items}
+use mathlib.Core.Path.{refl, sym, ap, ◌∙◌}
+use Prim.Native.Nat.{◌+◌}
 use Rattle.definition.specs.Space.{user_count}
-use Rattle.region.specs.Places.{Met, place_of}
+use Rattle.region.specs.Places.{Met}
 use Rattle.region.specs.Changes.{Counted}
 use Rattle.region.proofs.Answers.{met_item, met_nothing}
 use Rattle.region.proofs.Walks.{user_small, place_hit, place_miss, place_stop, counted_first, counted_next}

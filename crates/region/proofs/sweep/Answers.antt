@@ -1,8 +1,5 @@
 use borrow.Author.Rules.{rules}
-use mathlib.Core.Path.{◌≡◌, refl, sym, ◌∙◌}
-use Prim.Native.Nat.{◌-◌, ◌≤◌}
-use lib.ListN.{length, drop}
-use Rattle.definition.specs.Region.{whole}
+use mathlib.Core.Path.{refl, sym, ◌∙◌}
 use Rattle.region.specs.Places.{Met}
 use Rattle.region.specs.Classes.{is_swept}
 use Rattle.region.proofs.Answers.{met_item, met_nothing}

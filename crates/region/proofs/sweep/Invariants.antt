@@ -1,12 +1,7 @@
-use borrow.Author.Rules.{rules}
-use mathlib.Core.Path.{◌≡◌, refl, sym, ◌∙◌}
+use mathlib.Core.Path.{◌≡◌}
 use Prim.Native.Nat.{◌-◌, ◌≤◌}
 use lib.ListN.{length, drop}
 use Rattle.definition.specs.Region.{whole}
-use Rattle.region.specs.Places.{Met}
-use Rattle.region.specs.Classes.{is_swept}
-use Rattle.region.proofs.Answers.{met_item, met_nothing}
-use Rattle.region.proofs.Walks.{met_whole, whole_stop}
 use Rattle.region.proofs.sweep.Given as goal
 
 abbrev pub invariant-loop-next : goal.invariant-loop-next

@@ -1,16 +1,12 @@
-use borrow.Author.Rules.{rules}
-use borrow.Author.Tests.{not-true, not-false}
-use mathlib.Core.Path.{◌≡◌, refl, sym, ◌∙◌}
+use mathlib.Core.Path.{◌≡◌}
 use Prim.Native.Nat.{◌-◌}
-use native.Mathlib.Omega.{arith}
 use lib.ListN.{length}
 use Rattle.definition.specs.Region.{items}
 use Rattle.definition.specs.Scan.{rising}
 use Rattle.definition.specs.declared.ScanEnd.TheVariants.{Finished}
 use Rattle.windows.specs.Forms.{last_key, window_items}
-use Rattle.definition.proofs.Windows.{rising_strict, sorted, above}
-use Rattle.windows.proofs.Windows.{record_size, window_length, window_held, window_at}
-use Rattle.scan.proofs.Writing.{Writing, writing_on, Going, going_start, going_failed, going_stalled, going_writes, going_full, going_stops, going_finished, going_less, going_on}
+use Rattle.definition.proofs.Windows.{sorted, above}
+use Rattle.scan.proofs.Writing.{Writing, Going}
 use Rattle.scan.proofs.passes.Given as goal
 
 abbrev pub invariant-loop-i : goal.invariant-loop-i

@@ -1,4 +1,3 @@
-use borrow.Author.Rules.{rules}
 use mathlib.Core.Path.{ap, sym}
 use Rattle.scan.specs.Forms.{refused_as}
 use Rattle.scan.proofs.refused.Goals as goal

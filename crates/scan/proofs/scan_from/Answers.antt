@@ -1,4 +1,3 @@
-use borrow.Author.Rules.{rules}
 use Rattle.scan.proofs.Writing.{scan_nothing}
 use Rattle.scan.proofs.scan_from.Goals as goal
 

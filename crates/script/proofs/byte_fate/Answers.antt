@@ -1,4 +1,4 @@
-use Rattle.std.proofs.Common.{sym, rules, eq-eqb}
+use Rattle.std.proofs.Common.{sym, eq-eqb}
 use Rattle.definition.proofs.Choices.{pick_yes}
 use Rattle.definition.specs.Script.{byte_fate}
 use Rattle.script.proofs.Laws.{byte_fails}

@@ -1,4 +1,4 @@
-use Rattle.std.proofs.Common.{sym, ◌∙◌, rules, le-ltb, lt-ltb}
+use Rattle.std.proofs.Common.{sym, ◌∙◌, le-ltb, lt-ltb}
 use Rattle.definition.proofs.Choices.{pick_yes, pick_no}
 use Rattle.definition.specs.Script.{fate}
 use Rattle.script.proofs.fate.Goals as goal

@@ -1,5 +1,4 @@
 use Rattle.script.proofs.Laws.{step_cut, step_in, step_end}
-use Rattle.std.proofs.Common.{rules}
 use Rattle.script.proofs.stepped.Goals as goal
 
 pub returns-then-step : goal.returns-then-step

@@ -1,6 +1,5 @@
 use native.Mathlib.Omega.{arith}
 use Rattle.definition.specs.Codec.{be16_at}
-use borrow.Author.Rules.{rules}
 use Rattle.slices.proofs.be16_at.Goals as goal
 
 pub returns : goal.returns

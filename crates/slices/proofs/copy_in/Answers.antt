@@ -1,8 +1,6 @@
 use borrow.Author.Rules.{rules}
-use Prim.Native.Nat.{◌-◌}
 use mathlib.Core.Path.{refl}
-use lib.ListN.{length}
-use Rattle.slices.proofs.Copying.{Copied, copied_none, copied_more, copied_written}
+use Rattle.slices.proofs.Copying.{copied_none, copied_more, copied_written}
 use Rattle.slices.proofs.copy_in.Goals as goal
 
 pub loop-i-init : goal.loop-i-init

@@ -1,8 +1,6 @@
-use borrow.Author.Rules.{rules}
 use Prim.Native.Nat.{◌-◌}
-use mathlib.Core.Path.{refl}
 use lib.ListN.{length}
-use Rattle.slices.proofs.Copying.{Copied, copied_none, copied_more, copied_written}
+use Rattle.slices.proofs.Copying.{Copied}
 use Rattle.slices.proofs.copy_in.Given as goal
 
 abbrev pub invariant-loop-i : goal.invariant-loop-i

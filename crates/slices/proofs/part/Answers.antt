@@ -1,4 +1,3 @@
-use borrow.Author.Rules.{rules}
 use native.Mathlib.Nat.{add-sub_cancel_left}
 use Rattle.slices.proofs.part.Goals as goal
 

@@ -1,9 +1,6 @@
 use borrow.Author.Rules.{rules}
 use native.Mathlib.Omega.{arith}
-use Prim.Native.Nat.{◌-◌}
-use mathlib.Core.Path.{◌≡◌, refl, sym, ◌∙◌}
-use lib.ListN.{length, drop}
-use Rattle.definition.specs.Tools.{eqs}
+use mathlib.Core.Path.{refl, sym, ◌∙◌}
 use Rattle.slices.proofs.Runs.{other_lengths, same_hit, same_miss, same_over}
 use Rattle.slices.proofs.same.Goals as goal
 

@@ -2,11 +2,9 @@ use Rattle.definition.specs.Public.{contains}
 use Rattle.definition.specs.Calls as C
 use Rattle.definition.specs.Codec.{laid}
 use mathlib.Core.Path.{sym, ◌∙◌}
-use borrow.Author.Tests.{not-true, not-false}
 use Rattle.gate.proofs.Saying.{public_bad, public_ready, public_unready, says_as, says_ret, truth_outcome}
 use Rattle.definition.specs.declared.TruthAnswer.TheVariants.{Refused}
 use Rattle.definition.proofs.Choices.{pick_yes, pick_no}
-use borrow.Author.Rules.{rules}
 use Rattle.store.proofs.contains.Goals as goal
 
 pub returns-then-not-is_good : goal.returns-then-not-is_good

@@ -1,8 +1,6 @@
 use Rattle.store.proofs.Mounting.{mount_refused, mount_bad, mount_failed, mount_done}
 use Rattle.gate.proofs.Saying.{reply_outcome}
 use mathlib.Core.Path.{sym, ◌∙◌}
-use borrow.Author.Tests.{not-true, not-false}
-use borrow.Author.Rules.{rules}
 use Rattle.store.proofs.mount.Goals as goal
 
 pub returns-in-Refused : goal.returns-in-Refused

@@ -2,10 +2,8 @@ use Rattle.definition.specs.Public.{put}
 use Rattle.definition.specs.Calls as C
 use Rattle.definition.specs.Codec.{laid}
 use mathlib.Core.Path.{sym, ◌∙◌}
-use borrow.Author.Tests.{not-true, not-false}
 use Rattle.gate.proofs.Saying.{public_bad, public_ready, public_unready, reply_outcome}
 use Rattle.definition.specs.declared.Answer.TheVariants.{Refused}
-use borrow.Author.Rules.{rules}
 use Rattle.store.proofs.put.Goals as goal
 
 pub returns-then-not-is_good : goal.returns-then-not-is_good

@@ -1,4 +1,3 @@
-use borrow.Author.Rules.{rules}
 use Rattle.definition.specs.Scan.{is_less}
 use Rattle.windows.proofs.Windows.{rising_is}
 use Rattle.windows.proofs.before.Goals as goal

@@ -1,8 +1,5 @@
 use borrow.Author.Rules.{rules}
-use mathlib.Core.Path.{◌≡◌, refl, ◌∙◌}
-use Prim.Native.Nat.{◌-◌}
-use lib.ListN.{length, drop}
-use Rattle.definition.specs.Scan.{begins}
+use mathlib.Core.Path.{refl, ◌∙◌}
 use Rattle.definition.proofs.Windows.{begins_hit, begins_miss, begins_short, begins_over}
 use Rattle.windows.proofs.begins.Goals as goal
 

@@ -1,9 +1,7 @@
-use borrow.Author.Rules.{rules}
-use mathlib.Core.Path.{◌≡◌, refl, ◌∙◌}
+use mathlib.Core.Path.{◌≡◌}
 use Prim.Native.Nat.{◌-◌}
 use lib.ListN.{length, drop}
 use Rattle.definition.specs.Scan.{begins}
-use Rattle.definition.proofs.Windows.{begins_hit, begins_miss, begins_short, begins_over}
 use Rattle.windows.proofs.begins.Given as goal
 
 abbrev pub invariant-loop-i : goal.invariant-loop-i

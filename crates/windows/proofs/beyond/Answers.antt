@@ -1,4 +1,3 @@
-use borrow.Author.Rules.{rules}
 use Rattle.windows.proofs.Windows.{beyond_at, beyond_none, last_held}
 use Rattle.windows.proofs.beyond.Goals as goal
 

@@ -1,5 +1,3 @@
-use borrow.Author.Rules.{rules}
-use borrow.Author.Tests.{not-true, not-false}
 use Rattle.windows.proofs.Windows.{keep_skipped, keep_behind, keep_offered}
 use Rattle.windows.proofs.keep.Goals as goal
 

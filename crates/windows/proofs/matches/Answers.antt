@@ -1,4 +1,3 @@
-use borrow.Author.Rules.{rules}
 use Rattle.windows.proofs.Windows.{skips, tests}
 use Rattle.windows.proofs.matches.Goals as goal
 

@@ -1,5 +1,3 @@
-use borrow.Author.Rules.{rules}
-use borrow.Author.Tests.{not-true, not-false}
 use Rattle.windows.proofs.Windows.{long_skipped, long_refused, long_fine}
 use Rattle.windows.proofs.overlong.Goals as goal
 

@@ -1,4 +1,3 @@
-use borrow.Author.Rules.{rules}
 use Rattle.windows.proofs.Windows.{item_written, item_fits}
 use Rattle.windows.proofs.put_place.Goals as goal
 

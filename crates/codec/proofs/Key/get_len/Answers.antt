@@ -1,5 +1,4 @@
 use Rattle.codec.proofs.Laws.{length_none, length_some}
-use borrow.Author.Rules.{rules}
 use Rattle.codec.proofs.Key.get_len.Goals as goal
 
 pub returns-then-buffer-eq0 : goal.returns-then-buffer-eq0

@@ -1,10 +1,8 @@
 use borrow.Author.Rules.{rules}
 use Rattle.codec.proofs.Laws.{order_out, order_less, order_greater, order_next, order_ends, order_same}
-use Prim.Native.Nat.{◌≤◌, ◌-◌, zero-le}
-use mathlib.Core.Path.{◌≡◌, refl, ◌∙◌}
+use Prim.Native.Nat.{zero-le}
+use mathlib.Core.Path.{refl, ◌∙◌}
 use native.Mathlib.Omega.{arith}
-use lib.ListN.{length, drop}
-use Rattle.definition.specs.Codec.{order}
 use Rattle.codec.proofs.Key.order.Goals as goal
 
 pub loop-i-init : goal.loop-i-init

@@ -1,8 +1,5 @@
-use borrow.Author.Rules.{rules}
-use Rattle.codec.proofs.Laws.{order_out, order_less, order_greater, order_next, order_ends, order_same}
-use Prim.Native.Nat.{◌≤◌, ◌-◌, zero-le}
-use mathlib.Core.Path.{◌≡◌, refl, ◌∙◌}
-use native.Mathlib.Omega.{arith}
+use Prim.Native.Nat.{◌≤◌, ◌-◌}
+use mathlib.Core.Path.{◌≡◌}
 use lib.ListN.{length, drop}
 use Rattle.definition.specs.Codec.{order}
 use Rattle.codec.proofs.Key.order.Given as goal

@@ -1,7 +1,6 @@
 use Rattle.codec.proofs.Laws.{key_refused, key_inside, key_whole}
 use native.Mathlib.Omega.{arith}
 use lib.ListN.{length-take, length-drop}
-use borrow.Author.Rules.{rules}
 use Rattle.codec.proofs.Key.read.Goals as goal
 
 pub returns-in_default : goal.returns-in_default

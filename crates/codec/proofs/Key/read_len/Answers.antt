@@ -1,5 +1,4 @@
 use Rattle.codec.proofs.Laws.{read_none, read_long, read_few, read_whole}
-use borrow.Author.Rules.{rules}
 use Rattle.codec.proofs.Key.read_len.Goals as goal
 
 pub returns-then-buffer-eq0 : goal.returns-then-buffer-eq0

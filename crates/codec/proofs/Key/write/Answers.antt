@@ -3,7 +3,6 @@ use mathlib.Core.Path.{refl, ◌∙◌}
 use native.Mathlib.Omega.{arith}
 use lib.ListN.{length-set}
 use Rattle.definition.specs.Codec.{laid_if}
-use borrow.Author.Rules.{rules}
 use Rattle.codec.proofs.Key.write.Goals as goal
 
 pub returns-then-n-gt-MAX_LEN : goal.returns-then-n-gt-MAX_LEN

@@ -1,4 +1,3 @@
-use borrow.Author.Rules.{rules}
 use Rattle.windows.proofs.Windows.{last_held, advances_at, advances_none}
 use Rattle.windows.proofs.ScanWindow.advances.Goals as goal
 

@@ -1,6 +1,5 @@
 use borrow.Author.Rules.{rules}
-use Prim.Native.Nat.{◌-◌}
-use Rattle.windows.proofs.Windows.{no_place, Shifted, shifted_none, shifted_eight, shifted_on, shifted_room, shifted_full}
+use Rattle.windows.proofs.Windows.{no_place, shifted_none, shifted_eight, shifted_on, shifted_room, shifted_full}
 use Rattle.windows.proofs.ScanWindow.insert_at.Goals as goal
 
 pub loop-i-init : goal.loop-i-init

@@ -1,6 +1,5 @@
-use borrow.Author.Rules.{rules}
 use Prim.Native.Nat.{◌-◌}
-use Rattle.windows.proofs.Windows.{no_place, Shifted, shifted_none, shifted_eight, shifted_on, shifted_room, shifted_full}
+use Rattle.windows.proofs.Windows.{Shifted}
 use Rattle.windows.proofs.ScanWindow.insert_at.Given as goal
 
 abbrev pub invariant-loop-i : goal.invariant-loop-i

@@ -1,4 +1,3 @@
-use borrow.Author.Rules.{rules}
 use native.Mathlib.Omega.{arith}
 use Rattle.windows.proofs.Windows.{window_last, window_none}
 use Rattle.windows.proofs.ScanWindow.last_of.Goals as goal

@@ -1,4 +1,3 @@
-use borrow.Author.Rules.{rules}
 use native.Mathlib.Omega.{arith}
 use Rattle.windows.proofs.Windows.{window_length, offered}
 use Rattle.windows.proofs.ScanWindow.offer.Goals as goal

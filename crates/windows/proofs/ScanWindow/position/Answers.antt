@@ -1,9 +1,4 @@
-use borrow.Author.Rules.{rules}
-use borrow.Author.Tests.{not-true, not-false}
-use Prim.Native.Nat.{◌-◌}
-use Rattle.definition.specs.Scan.{rising}
-use Rattle.windows.specs.Forms.{window_items}
-use Rattle.windows.proofs.Windows.{window_held, Passed, passed_none, passed_on, passed_here, passed_all}
+use Rattle.windows.proofs.Windows.{window_held, passed_none, passed_on, passed_here, passed_all}
 use Rattle.windows.proofs.ScanWindow.position.Goals as goal
 
 pub loop-i-init : goal.loop-i-init
