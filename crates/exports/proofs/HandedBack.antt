@@ -21,7 +21,7 @@ use Rattle.definition.specs.declared.ScanEnd.TheVariants as E
 use Rattle.definition.specs.declared.Scanned.{Scanned}
 use Rattle.exports.specs.declared.CState.{CState}
 use Rattle.exports.specs.declared.CReply.{CReply}
-use Rattle.exports.specs.Forms.{health_number, health_of, flag_number, state_in, answer_out, get_out, truth_out, end_out, scan_out, Replies, Truths, Gets, Lists}
+use Rattle.exports.specs.Forms.{health_number, health_of, flag_number, state_in, answer_out, get_out, truth_out, end_out, Replies, Truths, Gets, Lists}
 
 -- the state in a reply
 abbrev pub kept : CReply → CState

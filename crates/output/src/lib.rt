@@ -1,21 +1,32 @@
 // Standard output through a buffer, for the console programs: bytes as they are, numbers in decimal, bytes in hex.
 #![tactic(auto)]
 
-ghost use Rattle.std.specs.Prelude.{◌≡◌, ◌<◌, ◌≤◌, drop};
+ghost use Rattle.std.specs.Prelude.{◌≡◌, ◌<◌, ◌≤◌, drop, IfOk};
 ghost use Rattle.output.specs.Digits.{hex_digit_ascii, last_digits};
 ghost use Rattle.output.specs.Waiting.{waits, add_byte, add_bytes, decimal_of, hex_of};
 
+use std::io;
+
 // The digits of the largest number in decimal.
 const MOST_DIGITS: usize = 20;
+
+// Writes the bytes that wait, and hands back how many wait then: none. An error is the write's alone, and leaves the
+// buffer as it was.
+pub fn show(rt: &impl Print, out: &[u8], used: usize) -> io::Result<usize>
+    ensures { IfOk result (λ left. left ≡ 0) }
+{
+    if used <= out.len() {
+        rt.write_all(&out[..used])?;
+    }
+    Ok(0)
+}
 
 // Writes the bytes that wait, and hands back how many wait then. Nothing is left to do where a write fails, so its
 // answer is dropped.
 pub fn flush(rt: &impl Print, out: &[u8], used: usize) -> usize
     ensures { result ≡ 0 }
 {
-    if used <= out.len() {
-        let _ = rt.write_all(&out[..used]);
-    }
+    let _ = show(rt, out, used);
     0
 }
 

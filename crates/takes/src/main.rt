@@ -2,7 +2,7 @@
 // standard output.
 #![tactic(auto)]
 
-ghost use Rattle.std.specs.Prelude.{◌≡◌, ◌≤◌, length};
+ghost use Rattle.std.specs.Prelude.{◌≡◌, ◌≤◌, length, IfOk};
 ghost use Rattle.text.specs.Words.{Fills};
 ghost use Rattle.takes.specs.Kept.{Kept};
 
@@ -10,6 +10,7 @@ use definition::{
     Answer, DELETE_KIND, Fault, GetAnswer, Health, PUT_KIND, ScanEnd, Space, State, TruthAnswer,
 };
 use region::Next;
+use std::io;
 use std::io::Read;
 use text::{Filled, Hex, LineKind, Numeral, Unread};
 
@@ -761,17 +762,17 @@ fn run_kind(
     }
 }
 
-// Writes what waits, with the lengths as they were.
-fn shown(rt: &impl Print, out: &[u8], console: Console) -> Console
-    ensures { (result.region ≡ console.region) × (result.script ≡ console.script) }
+// Writes what waits, with the lengths as they were. The error is a write's: whoever read the answers has left.
+fn shown(rt: &impl Print, out: &[u8], console: Console) -> io::Result<Console>
+    ensures { IfOk result (λ next. (next.region ≡ console.region) × (next.script ≡ console.script)) }
 {
     let mut said = console.said;
-    said.waiting = output::flush(rt, out, said.waiting);
-    Console {
+    said.waiting = output::show(rt, out, said.waiting)?;
+    Ok(Console {
         region: console.region,
         script: console.script,
         said: said,
-    }
+    })
 }
 
 // A line, and its answer written at once: whoever typed it, or sent it through a pipe, may wait for that before the
@@ -785,9 +786,9 @@ fn run_read(
     line: &[u8],
     kind: LineKind,
     console: Console,
-) -> Console
+) -> io::Result<Console>
     requires { Kept region.old script.old console }
-    ensures { Kept region.old script.old result }
+    ensures { IfOk result (λ next. Kept region.old script.old next) }
 {
     let console = run_kind(rt, region, script, work, out, line, kind, console);
     shown(rt, out, console)
@@ -820,7 +821,7 @@ fn started() -> Console
     }
 }
 
-// All lines.
+// All lines, or those up to a write that fails.
 fn run_lines(
     rt: &impl Print,
     reader: &mut impl Read,
@@ -830,7 +831,7 @@ fn run_lines(
     input: &mut [u8],
     line: &mut [u8],
     out: &mut [u8],
-) {
+) -> io::Result<()> {
     let mut console = started();
     let mut unread = Unread { from: 0, to: 0 };
     // A proved loop has to end: no run has so many lines.
@@ -840,13 +841,14 @@ fn run_lines(
         let len = got.len;
         let kind = got.kind;
         if let LineKind::Over = kind {
-            return;
+            return Ok(());
         }
-        console = run_read(rt, region, script, work, out, &line[..len], kind, console);
+        console = run_read(rt, region, script, work, out, &line[..len], kind, console)?;
     }
+    Ok(())
 }
 
-fn main(rt: HostRuntime) {
+fn main(rt: HostRuntime) -> io::Result<()> {
     let mut reader = rt.reader();
     let mut region = [255u8; REGION_SIZE];
     let mut script = [0u8; SCRIPT_SIZE];
@@ -863,5 +865,5 @@ fn main(rt: HostRuntime) {
         &mut input,
         &mut line,
         &mut out,
-    );
+    )
 }

@@ -1,7 +1,6 @@
 use mathlib.Core.Path.{sym, ap, ◌∙◌}
 use Rattle.exports.specs.Forms.{answer_out}
 use Rattle.definition.specs.declared.Answer.{Answer}
-use borrow.Author.Rules.{rules}
 use Rattle.exports.proofs.answer_out.Goals as goal
 
 pub returns-in-Ok : goal.returns-in-Ok

@@ -1,5 +1,4 @@
 use Rattle.exports.proofs.Crossing.{built_is}
-use borrow.Author.Rules.{rules}
 use Rattle.exports.proofs.built_of.Goals as goal
 
 pub returns : goal.returns

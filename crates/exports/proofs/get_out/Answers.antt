@@ -1,7 +1,6 @@
 use mathlib.Core.Path.{sym, ap, ◌∙◌}
 use Rattle.exports.specs.Forms.{get_out}
 use Rattle.definition.specs.declared.GetAnswer.{GetAnswer}
-use borrow.Author.Rules.{rules}
 use Rattle.exports.proofs.get_out.Goals as goal
 
 pub returns-in-Found : goal.returns-in-Found

@@ -1,6 +1,5 @@
 use mathlib.Core.Path.{sym, ap}
 use Rattle.exports.specs.Forms.{health_number}
-use borrow.Author.Rules.{rules}
 use Rattle.exports.proofs.health_number.Goals as goal
 
 pub returns-in-Clean : goal.returns-in-Clean

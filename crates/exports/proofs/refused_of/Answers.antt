@@ -1,5 +1,4 @@
 use Rattle.exports.proofs.Crossing.{refused_is}
-use borrow.Author.Rules.{rules}
 use Rattle.exports.proofs.refused_of.Goals as goal
 
 pub returns : goal.returns

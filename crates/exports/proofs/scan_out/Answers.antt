@@ -1,7 +1,6 @@
 use mathlib.Core.Path.{sym, ap, ◌∙◌}
 use Rattle.exports.specs.Forms.{end_out}
 use Rattle.definition.specs.declared.ScanEnd.{ScanEnd}
-use borrow.Author.Rules.{rules}
 use Rattle.exports.proofs.scan_out.Goals as goal
 
 pub returns-in-Finished : goal.returns-in-Finished

@@ -2,7 +2,6 @@ use mathlib.Core.Path.{ap}
 use Rattle.definition.specs.declared.Health.{Health}
 use mathlib.Core.Bool.{not}
 use lib.Dec.{eqb}
-use borrow.Author.Rules.{rules}
 use Rattle.exports.proofs.state_in.Goals as goal
 
 pub returns : goal.returns

@@ -2,7 +2,6 @@ use Rattle.exports.proofs.Crossing.{replies}
 use Rattle.definition.specs.declared.State.{State}
 use Rattle.definition.specs.Public as P
 use mathlib.Core.Path.{ap, ◌∙◌}
-use borrow.Author.Rules.{rules}
 use Rattle.exports.proofs.takes_batch.Goals as goal
 
 pub returns : goal.returns

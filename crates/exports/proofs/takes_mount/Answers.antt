@@ -1,5 +1,4 @@
 use Rattle.exports.proofs.Crossing.{replies}
-use borrow.Author.Rules.{rules}
 use Rattle.exports.proofs.takes_mount.Goals as goal
 
 pub returns : goal.returns

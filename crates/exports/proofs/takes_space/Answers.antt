@@ -1,7 +1,6 @@
 use mathlib.Core.Path.{ap, ◌∙◌}
 use Rattle.definition.specs.Public
 use Rattle.exports.specs.Forms.{space_out}
-use borrow.Author.Rules.{rules}
 use Rattle.exports.proofs.takes_space.Goals as goal
 
 pub returns : goal.returns

@@ -1,7 +1,6 @@
 use mathlib.Core.Path.{sym, ap, ◌∙◌}
 use Rattle.exports.specs.Forms.{truth_out}
 use Rattle.definition.specs.declared.TruthAnswer.{TruthAnswer}
-use borrow.Author.Rules.{rules}
 use Rattle.exports.proofs.truth_out.Goals as goal
 
 pub returns-in-Yes : goal.returns-in-Yes

@@ -1,6 +1,5 @@
 use mathlib.Core.Path.{sym, ap, ◌∙◌}
 use Rattle.exports.specs.Codecs.{codec_out}
-use borrow.Author.Rules.{rules}
 use Rattle.exports.proofs.codecs.codec_out.Goals as goal
 
 pub returns-in-Len : goal.returns-in-Len

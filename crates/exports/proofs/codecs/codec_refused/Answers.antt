@@ -2,7 +2,6 @@ use mathlib.Core.Path.{ap₂}
 use Prim.Native.Nat.{ℕ}
 use Rattle.numbers.specs.declared.Three.{Three}
 use Rattle.exports.specs.Codecs.{codec_says}
-use borrow.Author.Rules.{rules}
 use Rattle.exports.proofs.codecs.codec_refused.Goals as goal
 
 pub returns : goal.returns

@@ -1,6 +1,5 @@
 use mathlib.Core.Path.{sym, ap}
 use Rattle.exports.specs.Codecs.{order_number}
-use borrow.Author.Rules.{rules}
 use Rattle.exports.proofs.codecs.order_number.Goals as goal
 
 pub returns-in-Less : goal.returns-in-Less

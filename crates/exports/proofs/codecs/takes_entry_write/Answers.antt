@@ -1,5 +1,4 @@
 use Rattle.exports.proofs.CodecCrossing.{encodes}
-use borrow.Author.Rules.{rules}
 use Rattle.exports.proofs.codecs.takes_entry_write.Goals as goal
 
 pub returns : goal.returns

@@ -1,6 +1,5 @@
 use mathlib.Core.Path.{ap, ◌∙◌}
 use Rattle.exports.specs.Codecs.{order_number}
-use borrow.Author.Rules.{rules}
 use Rattle.exports.proofs.codecs.takes_key_order.Goals as goal
 
 pub returns : goal.returns

@@ -1,5 +1,4 @@
 use Rattle.exports.proofs.CodecCrossing.{key_is}
-use borrow.Author.Rules.{rules}
 use Rattle.exports.proofs.codecs.takes_key_read.Goals as goal
 
 pub returns : goal.returns
