@@ -14,12 +14,12 @@ need_rt() {
 # Leaves with one sentence where target/ cannot be written. It is tried, for a mode does not tell of a file system that is read-only.
 need_target() {
     if ! { mkdir -p target && touch target/.tried && rm target/.tried; } 2>/dev/null; then
-        echo "$name: $(pwd)/target cannot be written, and all that is built goes there; use a copy of the repository of your own" >&2
+        echo "$name: $(pwd)/target cannot be written, and what is said and built goes there and below crates; use a copy of the repository of your own" >&2
         exit 2
     fi
 }
 
-# Shows what rt says, as it comes: its line on each crate, edit and run. What the prover says is left out where that line is good and shown where it
+# Shows what rt says of crates, edits and runs, as it comes. What the prover says is left out where rt's next line is good and shown where it
 # is not, and all of it goes to the file. The count at the end is left to the caller. No awk here: some wait for a full buffer.
 brief() { # FILE
     end_of_line='
@@ -29,15 +29,15 @@ brief() { # FILE
     while IFS= read -r line || [ -n "$line" ]; do
         printf '%s\n' "$line" >>"$1"
         case $line in
-        'rt: '*' proved ('* | 'rt: '*': refused, as it must be '* | 'rt: '*" wrote what its file 'stdout' has "* | 'rt: ok, '*)
-            held='' wrong=''
-            printf '%s\n' "$line"
-            ;;
-        'rt: '*)
+        *'NOT PROVED'* | *'NOT REFUSED'* | *'NOT TRIED'* | *'BAD EDIT'* | *FAILED* | 'rt: '*error*)
             printf '%s%s\n' "$held" "$line"
             held='' wrong=yes
             ;;
-        [0-9]*' passed, '[0-9]*' failed') ;;
+        'rt: '*)
+            held='' wrong=''
+            printf '%s\n' "$line"
+            ;;
+        [0-9]*' passed, '[0-9]*' failed'*) ;;
         *) if [ -n "$wrong" ]; then printf '%s\n' "$line"; else held=$held$line$end_of_line; fi ;;
         esac
     done
