@@ -44,14 +44,14 @@ brief() { # FILE
     printf '%s' "$held"
 }
 
-# Runs rt with the words given, shown in brief and kept whole in the file. A pipe's status is its last command's, so that of rt goes through a file
+# Runs rt with the words given, here or in the folder $within, shown in brief and kept whole in the file. A pipe's status is its last command's, so that of rt goes through a file
 # beside it; it is left in $status.
 run_rt() { # FILE WORDS..
     said=$1
     shift
     {
         status=0
-        rt "$@" 2>&1 || status=$?
+        (cd "${within-.}" && rt "$@") 2>&1 || status=$?
         echo "$status" >"$said.status"
     } | brief "$said"
     status=$(cat "$said.status")
