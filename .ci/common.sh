@@ -29,6 +29,10 @@ brief() { # FILE
     while IFS= read -r line || [ -n "$line" ]; do
         printf '%s\n' "$line" >>"$1"
         case $line in
+        'rt: '*': refused, as it must be'*)
+            held='' wrong=''
+            printf '%s\n' "$line"
+            ;;
         *'NOT PROVED'* | *'NOT REFUSED'* | *'NOT TRIED'* | *'BAD EDIT'* | *FAILED* | 'rt: '*error*)
             printf '%s%s\n' "$held" "$line"
             held='' wrong=yes

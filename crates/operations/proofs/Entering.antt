@@ -1,4 +1,4 @@
--- What the entry's walk knows: that an operation may take its turn, and what the last work says of the call.
+-- What the entry's loop cites: that an operation may take its turn, and what the last work says of the call.
 use mathlib.Core.Path.{◌≡◌, refl, sym, ap, ◌∙◌, subst}
 use mathlib.Core.Bool.{true}
 use mathlib.Core.List.{List, [], ◌∷◌}

@@ -1,5 +1,5 @@
--- Laws in the shape of the code: what a function's proof cites at each of its returns. The entry is walked by hand;
--- `Entering` has what its walk knows, `Again` how it lends the region at each turn.
+-- Laws in the shape of the code: what a function's proof cites at each of its returns.
+-- `Entering` has what the entry's loop cites.
 pub mod Coming
 pub mod Turning
 pub mod Beginning

@@ -762,7 +762,7 @@ fn run_kind(
     }
 }
 
-// Writes what waits, with the lengths as they were. The error is a write's: whoever read the answers has left.
+// Writes what waits, with the lengths as they were. The error is the write's and no other, and changes nothing.
 fn shown(rt: &impl Print, out: &[u8], console: Console) -> io::Result<Console>
     ensures { IfOk result (λ next. (next.region ≡ console.region) × (next.script ≡ console.script)) }
 {
@@ -776,7 +776,8 @@ fn shown(rt: &impl Print, out: &[u8], console: Console) -> io::Result<Console>
 }
 
 // A line, and its answer written at once: whoever typed it, or sent it through a pipe, may wait for that before the
-// next line.
+// next line. An error is that of the write at the line's end and no other: the line's call is done by then, and region,
+// script and work are as it left them.
 fn run_read(
     rt: &impl Print,
     region: &mut [u8],
@@ -821,7 +822,7 @@ fn started() -> Console
     }
 }
 
-// All lines, or those up to a write that fails.
+// All lines, or those up to one whose answer cannot be written: that write's error, and no other.
 fn run_lines(
     rt: &impl Print,
     reader: &mut impl Read,

@@ -1,3 +1,3 @@
-// No code: what the walks by hand of several crates share. The toolchain makes no proof part for a function with a
-// reference to a struct.
+// No code: laws for a proof that goes along a function's code by hand. Nothing uses them now, for the check makes the
+// proofs that they were for.
 #![tactic(auto)]
