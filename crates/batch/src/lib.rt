@@ -45,6 +45,7 @@ fn check_all(list: &[u8]) -> Checked
 }
 
 // The count, then each operation.
+#[tactic(auto, using(crate::proofs::Walking::check_many))]
 fn check_batch(list: &[u8], count: usize) -> Checked
     requires walk { Walk list.now 0 }
     requires count_value { count ≡ length (ops_in list.now) }
@@ -178,6 +179,7 @@ fn journal_all(region: &mut [u8], script: &[u8], count: u16, list: &[u8], step: 
 }
 
 // A batch of so many operations: none is done at once; else the tests, the recovery unless Clean, and the journal.
+#[tactic(auto, using(crate::proofs::Batching::batch_empty))]
 fn batch(
     region: &mut [u8],
     script: &[u8],

@@ -153,6 +153,7 @@ impl Key {
 }
 
 // The batch's tests of an operation with this key and value, in their order; a delete has the empty value.
+#[tactic(auto, using(crate::proofs::Laws::op_long, crate::proofs::Laws::op_reserved, crate::proofs::Laws::op_value_refused, crate::proofs::Laws::op_fine))]
 pub fn check_op(key: &[u8], value: &[u8]) -> Checked
     ensures { Checks (op_fault (Put key.now value.now)) key.now
         value.now result }

@@ -9,6 +9,7 @@ ghost use Rattle.entries.specs.Forms.{EntryReads};
 use definition::{ENTRY_HEAD, Entry, MAX_KEY_LEN, MAX_VALUE_LEN, OP_DELETE, OP_PUT};
 
 // What a journal entry's bytes say, tested in document 01's order.
+#[tactic(auto, using(crate::proofs::Entries::entry_delete, crate::proofs::Entries::entry_value_long))]
 pub fn decode_entry(entry: &[u8]) -> Entry
     ensures { EntryReads entry.now result }
 {

@@ -84,6 +84,7 @@ fn is_marker(region: &[u8], spot: Spot, count: u16) -> bool
 // ---- from the commit point on
 
 // What a fault after the commit point is to the caller: the batch stands all the same.
+#[tactic(auto, using(crate::proofs::Committing::settled_stays))]
 fn settled(fault: Fault) -> Fault
     ensures { result ≡ Calls.settled fault }
 {

@@ -14,6 +14,7 @@ use definition::{
 };
 
 // The tests of a put, in their order: the value's length, the reserved byte, the key's length.
+#[tactic(auto, using(crate::proofs::Testing::put_value, crate::proofs::Testing::put_reserved, crate::proofs::Testing::put_key, crate::proofs::Testing::put_fine))]
 pub fn check_put(key: &[u8], value: &[u8]) -> Checked
     ensures { Checks (put_fault key.now value.now) key.now value.now
         result }
@@ -60,6 +61,7 @@ pub fn unstorable(key: &[u8]) -> bool
 }
 
 // The tests of a region, in their order; the first takes what has no sum in 64 bits too.
+#[tactic(auto, using(crate::proofs::Testing::region_high, crate::proofs::Testing::region_small))]
 pub fn check_region(start: u32, len: usize) -> Checked
     ensures { result ≡ checked_of (region_fault start len) }
 {

@@ -66,6 +66,7 @@ pub fn encode_marker(count: u16) -> [u8; 4]
 }
 
 // The count that a marker's bytes say, if they are a marker.
+#[tactic(auto, using(crate::proofs::Marks::marker_long))]
 pub fn decode_marker(bytes: &[u8]) -> Marker
     ensures { MarkerReads bytes.now result }
 {
@@ -83,6 +84,7 @@ pub fn decode_marker(bytes: &[u8]) -> Marker
 
 // Whether a marker's count cannot be a batch's: the erased pattern, which is the likeliest garbage and which no batch
 // therefore has, or more entries than the region could hold, each of which a mount would look for in vain.
+#[tactic(auto, using(crate::proofs::Marks::many_erased))]
 pub fn too_many(len: usize, count: usize) -> bool
     ensures { result ≡ too_many len count }
 {

@@ -86,6 +86,7 @@ fn matches(region: &[u8], prefix: &[u8], place: Place) -> bool
 }
 
 // Why a matching record may not be handed out.
+#[tactic(auto, using(crate::proofs::Windows::long_refused))]
 pub fn overlong(region: &[u8], prefix: &[u8], place: Place) -> Checked
     requires { Held region.now place }
     ensures { result ≡ checked_of (Scan.overlong prefix.now (place_item region.now place)) }

@@ -1,3 +1,4 @@
+use native.Mathlib.Omega.{arith}
 use Rattle.entries.proofs.Entries.{entry_head, entry_short, entry_long, entry_reserved, entry_value_long, entry_put, entry_delete, entry_unknown}
 use Rattle.entries.proofs.decode_entry.Goals as goal
 
@@ -13,14 +14,8 @@ returns-then-n-gt-MAX_KEY_LEN c = entry_long _ c.if-entry-lt-ENTRY_HEAD.false c.
 pub returns-then-reserved : goal.returns-then-reserved
 returns-then-reserved c = entry_reserved _ c.if-entry-lt-ENTRY_HEAD.false c.wide-n.ensures.0 c.if-entry-to.false c.if-n-gt-MAX_KEY_LEN.false c.reserved.ensures c.if-reserved.true
 
-pub returns-then-value-gt-MAX_VALUE_LEN : goal.returns-then-value-gt-MAX_VALUE_LEN
-returns-then-value-gt-MAX_VALUE_LEN c = entry_value_long _ c.if-entry-lt-ENTRY_HEAD.false c.wide-n.ensures.0 c.if-entry-to.false c.if-n-gt-MAX_KEY_LEN.false c.reserved.ensures c.if-reserved.false c.if-op-eq-OP_PUT.true c.if-value-gt-MAX_VALUE_LEN.true
-
 pub returns-then-op-eq-OP_PUT : goal.returns-then-op-eq-OP_PUT
-returns-then-op-eq-OP_PUT c = entry_put _ c.if-entry-lt-ENTRY_HEAD.false c.wide-n.ensures.0 c.if-entry-to.false c.if-n-gt-MAX_KEY_LEN.false c.reserved.ensures c.if-reserved.false c.if-op-eq-OP_PUT.true c.if-value-gt-MAX_VALUE_LEN.false
-
-pub returns-then-op-eq-OP_DELETE : goal.returns-then-op-eq-OP_DELETE
-returns-then-op-eq-OP_DELETE c = entry_delete _ c.if-entry-lt-ENTRY_HEAD.false c.wide-n.ensures.0 c.if-entry-to.false c.if-n-gt-MAX_KEY_LEN.false c.reserved.ensures c.if-reserved.false c.if-op-eq-OP_PUT.false c.if-op-eq-OP_DELETE.true
+returns-then-op-eq-OP_PUT c = entry_put _ c.if-entry-lt-ENTRY_HEAD.false c.wide-n.ensures.0 c.if-entry-to.false c.if-n-gt-MAX_KEY_LEN.false c.reserved.ensures c.if-reserved.false c.if-op-eq-OP_PUT.true (omega arith)
 
 pub returns : goal.returns
-returns c = entry_unknown _ c.if-entry-lt-ENTRY_HEAD.false c.wide-n.ensures.0 c.if-entry-to.false c.if-n-gt-MAX_KEY_LEN.false c.reserved.ensures c.if-reserved.false c.if-op-eq-OP_PUT.false c.if-op-eq-OP_DELETE.false
+returns c = entry_unknown _ c.if-entry-lt-ENTRY_HEAD.false c.wide-n.ensures.0 c.if-entry-to.false c.if-n-gt-MAX_KEY_LEN.false c.reserved.ensures c.if-reserved.false c.if-op-eq-OP_PUT.false (omega arith)

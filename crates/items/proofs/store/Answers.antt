@@ -1,3 +1,4 @@
+use borrow.Author.Rules.{rules}
 use Rattle.items.proofs.Laws.{store_done, store_full, store_failed_on, store_failed_full, store_failed}
 use Rattle.items.proofs.store.Goals as goal
 
@@ -14,4 +15,4 @@ pub returns-then-lands : goal.returns-then-lands
 returns-then-lands c = store_failed_on _ c.fate-verdict.ensures c.stepped-next.ensures c.store-stored-then-lands.ensures c.in-Done-stored.is c.keeping-then-lands.ensures c.in-Fail.is c.if-lands.true
 
 pub returns : goal.returns
-returns c = store_failed _ c.fate-verdict.ensures c.stepped-next.ensures c.in-Fail.is c.if-lands.false c.requires.region_value
+returns c = store_failed _ c.fate-verdict.ensures c.stepped-next.ensures c.in-Fail.is (search rules) c.requires.region_value

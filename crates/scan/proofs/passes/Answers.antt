@@ -59,10 +59,10 @@ pub last_of-last-requires : goal.last_of-last-requires
 last_of-last-requires c = record { sane = c.pass-passed.ensures.sane; last_held = c.passes.invariant.0.held }
 
 pub passes-smaller : goal.passes-smaller
-passes-smaller c = going_less c.passes.invariant.0 c.pass-passed.ensures c.in-Done.is c.advances.ensures c.if-not-advances.false c.loop-i.invariant.0 c.loop-i-test.false rising_strict (omega (arith, c.if-window-lt-SCAN_WINDOW.false)) c.last_of-last.ensures
+passes-smaller c = going_less c.passes.invariant.0 c.pass-passed.ensures c.in-Done.is c.advances.ensures c.if-not-advances.false c.loop-i.invariant.0 c.loop-i-test.false rising_strict (omega arith) c.last_of-last.ensures
 
 pub passes-preserved : goal.passes-preserved
-passes-preserved c = (going_on c.passes.invariant.0 c.pass-passed.ensures c.in-Done.is c.advances.ensures c.if-not-advances.false c.loop-i.invariant.0 c.loop-i-test.false rising_strict (omega (arith, c.if-window-lt-SCAN_WINDOW.false)) c.last_of-last.ensures, c.loop-i.invariant.1)
+passes-preserved c = (going_on c.passes.invariant.0 c.pass-passed.ensures c.in-Done.is c.advances.ensures c.if-not-advances.false c.loop-i.invariant.0 c.loop-i-test.false rising_strict (omega arith) c.last_of-last.ensures, c.loop-i.invariant.1)
 
 pub shape_of-out-then-not-advances : goal.shape_of-out-then-not-advances
 shape_of-out-then-not-advances c = c.passes.invariant.0.same
