@@ -1,5 +1,5 @@
 use native.Mathlib.Omega.{arith}
-use Rattle.batch.proofs.Batching.{batch_empty, batch_refused, batch_fine, batch_unready, batch_ready}
+use Rattle.batch.proofs.Batching.{batch_refused, batch_fine, batch_unready, batch_ready}
 use Rattle.batch.proofs.Walking.{tested}
 use borrow.Author.Rules.{rules}
 use Rattle.batch.proofs.batch.Goals as goal

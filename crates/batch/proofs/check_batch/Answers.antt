@@ -1,5 +1,5 @@
 use native.Mathlib.Omega.{arith}
-use Rattle.batch.proofs.Walking.{check_many, check_few}
+use Rattle.batch.proofs.Walking.{check_few}
 use Rattle.batch.proofs.check_batch.Goals as goal
 
 pub returns : goal.returns

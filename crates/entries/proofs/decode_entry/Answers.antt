@@ -1,5 +1,5 @@
 use native.Mathlib.Omega.{arith}
-use Rattle.entries.proofs.Entries.{entry_head, entry_short, entry_long, entry_reserved, entry_value_long, entry_put, entry_delete, entry_unknown}
+use Rattle.entries.proofs.Entries.{entry_head, entry_short, entry_long, entry_reserved, entry_put, entry_unknown}
 use Rattle.entries.proofs.decode_entry.Goals as goal
 
 pub returns-then-entry-lt-ENTRY_HEAD : goal.returns-then-entry-lt-ENTRY_HEAD

@@ -1,5 +1,5 @@
 use native.Mathlib.Omega.{arith}
-use Rattle.journal.proofs.Committing.{settled_stays, settled_else}
+use Rattle.journal.proofs.Committing.{settled_else}
 use Rattle.journal.proofs.settled.Goals as goal
 
 pub returns : goal.returns

@@ -1,4 +1,4 @@
-use Rattle.limits.proofs.Testing.{region_high, region_start, region_end, region_small, region_fine}
+use Rattle.limits.proofs.Testing.{region_high, region_start, region_end, region_fine}
 use native.Mathlib.Omega.{arith}
 use Rattle.limits.proofs.check_region.Goals as goal
 

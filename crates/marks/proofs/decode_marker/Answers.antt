@@ -1,5 +1,5 @@
 use native.Mathlib.Omega.{arith}
-use Rattle.marks.proofs.Marks.{marker_long, marker_torn, marker_counts}
+use Rattle.marks.proofs.Marks.{marker_torn, marker_counts}
 use Rattle.marks.proofs.decode_marker.Goals as goal
 
 pub returns-then-sum : goal.returns-then-sum

@@ -1,5 +1,5 @@
 use native.Mathlib.Omega.{arith}
-use Rattle.marks.proofs.Marks.{many_erased, many_else}
+use Rattle.marks.proofs.Marks.{many_else}
 use Rattle.marks.proofs.too_many.Goals as goal
 
 pub returns : goal.returns

@@ -1,5 +1,5 @@
 use native.Mathlib.Omega.{arith}
-use Rattle.windows.proofs.Windows.{long_skipped, long_refused, long_fine}
+use Rattle.windows.proofs.Windows.{long_skipped, long_fine}
 use Rattle.windows.proofs.overlong.Goals as goal
 
 pub returns-then-not-matches : goal.returns-then-not-matches
