@@ -1,224 +1,268 @@
-// apply_batch over a lent operation list. Document 01 defines it in "Calls", under batch: tests, recovery, journal,
-// marker, application. The functions are split where the definition's programs are; each walks the list by place.
+// A batch of operations, from wherever they are lent, and apply_batch over a lent operation list. Document 01 defines
+// it in "Calls", under batch: tests, recovery, journal, marker, application. The functions are split where the
+// definition's programs are; each goes along the operations anew.
 #![tactic(auto)]
 
-ghost use Rattle.std.specs.Prelude.{◌≡◌, true, [], length};
+ghost use Rattle.std.specs.Prelude.{◌≡◌, ◌∷◌, Ok, None, true, ℕ, suc, List, [], length};
+ghost use Rattle.definition.specs.Tools.{Bytes};
+ghost use Rattle.definition.specs.Codec.{Op, op_fault};
 ghost use Rattle.definition.specs.Region.{good};
-ghost use Rattle.definition.specs.Program.{flat};
+ghost use Rattle.definition.specs.Program.{Prog, ◌▷◌, flat};
+ghost use Rattle.definition.specs.Recovery;
 ghost use Rattle.definition.specs.Calls;
 ghost use Rattle.definition.specs.Calls.{ops_fault, batch_fault, apply_all, journal_all, batch_of};
-ghost use Rattle.definition.specs.OperationList.{ops_of};
 ghost use Rattle.definition.specs.Public.{outcome, apply_batch};
-ghost use Rattle.codec.specs.Forms.{checked_of};
+ghost use Rattle.codec.specs.Forms.{op_as, checked_of};
 ghost use Rattle.items.specs.Forms.{Ran};
 ghost use Rattle.gate.specs.Forms.{Says};
-ghost use Rattle.oplist.specs.Places.{Walk, ops_in};
-ghost use Rattle.batch.specs.Forms.{Tested};
+ghost use Rattle.oplist.specs.Places.{Listed, those};
+ghost use Rattle.batch.specs.Forms.{Tested, Passes, entered, journal_turn, apply_turn};
 
-use codec::Checked;
 use definition::{Answer, BATCH_MAX, CapacityKind, Fault, Health, Reply, State, Step};
-use gate::Converged;
-use items::ItemAnswer;
-use oplist::{Next, Shape};
+use items::Failure;
+use oplist::OpList;
+pub use oplist::{ListOp, OpSource};
 
 // ---- the tests
 
 // The tests of each operation, in order.
-fn check_all(list: &[u8]) -> Checked
-    requires { Walk list.now 0 }
-    ensures { result ≡ checked_of (ops_fault (ops_in list.now)) }
+fn check_all<S: OpSource>(source: &S) -> Result<(), Fault>
+    requires { Listed (S.left source.now 0) }
+    ensures { result ≡ checked_of (ops_fault (those (S.left source.now 0))) }
 {
-    let mut at: usize = 0;
-    loop {
-        let Next::Op(_, klen, vlen, next) = oplist::op_at(list, at) else {
-            return Checked::Fine;
-        };
-        let checked = codec::check_op(
-            region::key_at(list, at, klen),
-            region::value_at(list, at, klen, vlen),
-        );
-        let Checked::Fine = checked else {
-            return checked;
-        };
-        at = next;
+    for op in oplist::ops(source) {
+        codec::check_op(op.key, op.value)?;
     }
+    Ok(())
 }
 
 // The count, then each operation.
 #[tactic(auto, using(crate::proofs::Walking::check_many))]
-fn check_batch(list: &[u8], count: usize) -> Checked
-    requires walk { Walk list.now 0 }
-    requires count_value { count ≡ length (ops_in list.now) }
-    ensures { result ≡ checked_of (batch_fault (ops_in list.now)) }
+fn check_batch<S: OpSource>(source: &S, count: usize) -> Result<(), Fault>
+    requires listed { Listed (S.left source.now 0) }
+    requires count_value { count ≡ length (those (S.left source.now 0)) }
+    ensures { result ≡ checked_of (batch_fault (those (S.left source.now 0))) }
 {
     if BATCH_MAX < count {
-        return Checked::Refused(Fault::CapacityExceeded(
-            CapacityKind::BatchOperations,
-            count,
-            BATCH_MAX,
-        ));
+        return Err(Fault::CapacityExceeded(CapacityKind::BatchOperations, count, BATCH_MAX));
     }
-    check_all(list)
+    check_all(source)
 }
 
-// ---- the two walks that write
+// The shape of what is lent, before anything of its operations; then their tests. How many they are.
+pub fn tested<S: OpSource>(source: &S) -> Result<usize, Fault>
+    ensures { Passes (S.left source.now 0) result }
+{
+    let Some(count) = oplist::shape_of(source) else {
+        return Err(Fault::BadList);
+    };
+    check_batch(source, count)?;
+    Ok(count)
+}
+
+// ---- the two passes that write
+
+// A pass over a batch's operations: what is done with each, and behind the last. `run` is the definition's program,
+// which does the first and then runs on the rest.
+trait Pass {
+    ghost does: { ℕ → Op → Prog Bytes (Unit {0}) };
+
+    ghost run: { ℕ → List Op → Prog Bytes (Unit {0}) };
+
+    fn turn(
+        region: &mut [u8],
+        script: &[u8],
+        index: u16,
+        op: ListOp<'_>,
+        step: Step,
+    ) -> Result<Step, Failure>
+        requires region_value { good region.old ≡ true }
+        requires tested { op_fault (op_as op.kind op.key.now op.value.now) ≡ None }
+        ensures { Ran (does index (op_as op.entry.kind op.entry.key.now op.entry.value.now))
+            region.old script.now step region.new result };
+
+    fn end(region: &mut [u8], script: &[u8], step: Step) -> Result<Step, Failure>
+        requires { good region.old ≡ true }
+        ensures { (i : ℕ) → Ran (run i []) region.old script.now step region.new result };
+
+    ghost turns: { (i : ℕ) (op : Op) (ops : List Op) → run i (op ∷ ops)
+        ≡ (does i op ▷ λ x. run (suc i) ops) };
+}
 
 // Stores each operation's entry.
-fn journal(region: &mut [u8], script: &[u8], list: &[u8], step: Step) -> ItemAnswer
-    requires region_value { good region.old ≡ true }
-    requires tested { Tested list.now 0 0 }
-    ensures { Ran (Calls.journal flat 0 (ops_in list.now)) region.old
-        script.now step region.new result }
-{
-    let mut step = step;
-    let mut at: usize = 0;
-    let mut index: u16 = 0;
-    loop {
-        let Next::Op(kind, klen, vlen, next) = oplist::op_at(list, at) else {
-            return ItemAnswer::Done(step);
-        };
-        let written = journal::write_entry(
-            region,
-            script,
-            index,
-            kind,
-            region::key_at(list, at, klen),
-            region::value_at(list, at, klen, vlen),
-            step,
-        );
-        let ItemAnswer::Done(further) = written else {
-            return written;
-        };
-        step = further;
-        at = next;
-        index += 1;
+struct Journal;
+
+impl Pass for Journal {
+    ghost does = { entered };
+
+    ghost run = { Calls.journal flat };
+
+    ghost turns = { journal_turn };
+
+    fn turn(
+        region: &mut [u8],
+        script: &[u8],
+        index: u16,
+        op: ListOp<'_>,
+        step: Step,
+    ) -> Result<Step, Failure> {
+        journal::write_entry(region, script, index, op.kind, op.key, op.value, step)
+    }
+
+    #[tactic(auto, using(crate::proofs::Walking::journal_over))]
+    fn end(_region: &mut [u8], _script: &[u8], step: Step) -> Result<Step, Failure> {
+        Ok(step)
     }
 }
 
-// Lands each operation from the list, and removes the marker last.
-fn apply(region: &mut [u8], script: &[u8], list: &[u8], step: Step) -> ItemAnswer
+// Lands each operation, and removes the marker last.
+struct Landing;
+
+impl Pass for Landing {
+    ghost does = { Recovery.land flat };
+
+    ghost run = { Calls.apply flat };
+
+    ghost turns = { apply_turn };
+
+    fn turn(
+        region: &mut [u8],
+        script: &[u8],
+        index: u16,
+        op: ListOp<'_>,
+        step: Step,
+    ) -> Result<Step, Failure> {
+        recovery::land(region, script, index, op.kind, op.key, op.value, step)
+    }
+
+    #[tactic(auto, using(crate::proofs::Walking::apply_over))]
+    fn end(region: &mut [u8], script: &[u8], step: Step) -> Result<Step, Failure> {
+        journal::remove_marker(region, script, step)
+    }
+}
+
+// Makes a pass over the operations.
+fn go_over<P: Pass, S: OpSource>(
+    region: &mut [u8],
+    script: &[u8],
+    source: &S,
+    step: Step,
+) -> Result<Step, Failure>
     requires region_value { good region.old ≡ true }
-    requires tested { Tested list.now 0 0 }
-    ensures { Ran (Calls.apply flat 0 (ops_in list.now)) region.old script.now
+    requires tested { Tested (S.left source.now 0) 0 }
+    ensures { Ran (P.run 0 (those (S.left source.now 0))) region.old script.now
         step region.new result }
 {
     let mut step = step;
-    let mut at: usize = 0;
     let mut index: u16 = 0;
-    loop {
-        let Next::Op(kind, klen, vlen, behind) = oplist::op_at(list, at) else {
-            return journal::remove_marker(region, script, step);
-        };
-        let landed = recovery::land(
-            region,
-            script,
-            index,
-            kind,
-            region::key_at(list, at, klen),
-            region::value_at(list, at, klen, vlen),
-            step,
-        );
-        let ItemAnswer::Done(further) = landed else {
-            return landed;
-        };
-        step = further;
-        at = behind;
+    for op in oplist::ops(source) {
+        step = P::turn(region, script, index, op, step)?;
         index += 1;
     }
+    P::end(region, script, step)
 }
 
 // ---- from the journal to the reply
 
 // Applies a committed batch; a fault leaves the rest to recovery.
-fn apply_all(region: &mut [u8], script: &[u8], list: &[u8], step: Step) -> Reply
+fn apply_all<S: OpSource>(region: &mut [u8], script: &[u8], source: &S, step: Step) -> Reply<Answer>
     requires region_value { good region.old ≡ true }
-    requires tested { Tested list.now 0 0 }
-    ensures { Says (apply_all flat (ops_in list.now)) region.old script.now step
+    requires tested { Tested (S.left source.now 0) 0 }
+    ensures { Says (apply_all flat (those (S.left source.now 0))) region.old script.now step
         region.new result.answer result.state result.calls [] }
 {
-    let applied = apply(region, script, list, step);
-    let ItemAnswer::Done(next) = applied else {
-        let failed = items::why(applied);
-        let stopped = failed.step;
-        return journal::finish(region, script, stopped);
-    };
-    gate::reply(Answer::Ok, Health::Clean, next)
+    match go_over::<Landing, S>(region, script, source, step) {
+        Ok(next) => gate::reply(Ok(()), Health::Clean, next),
+        Err(failed) => journal::finish(region, script, failed.step),
+    }
 }
 
 // Writes the marker: the commit point.
-fn commit(region: &mut [u8], script: &[u8], count: u16, list: &[u8], step: Step) -> Reply
+fn commit<S: OpSource>(
+    region: &mut [u8],
+    script: &[u8],
+    source: &S,
+    count: u16,
+    step: Step,
+) -> Reply<Answer>
     requires region_value { good region.old ≡ true }
-    requires tested { Tested list.now 0 0 }
-    requires count_value { count ≡ length (ops_in list.now) }
-    ensures { Says (Calls.commit flat (ops_in list.now)) region.old script.now
+    requires tested { Tested (S.left source.now 0) 0 }
+    requires count_value { count ≡ length (those (S.left source.now 0)) }
+    ensures { Says (Calls.commit flat (those (S.left source.now 0))) region.old script.now
         step region.new result.answer result.state result.calls [] }
 {
-    let marked = journal::write_marker(region, script, count, step);
-    let ItemAnswer::Done(next) = marked else {
-        let failed = items::why(marked);
-        let fault = failed.fault;
-        let stopped = failed.step;
-        return journal::read_back(region, script, count, fault, stopped);
-    };
-    apply_all(region, script, list, next)
+    match journal::write_marker(region, script, count, step) {
+        Ok(next) => apply_all(region, script, source, next),
+        Err(failed) => journal::read_back(region, script, count, failed.fault, failed.step),
+    }
 }
 
 // Journals the batch; before the marker a fault leaves only what a later recovery drops.
-fn journal_all(region: &mut [u8], script: &[u8], count: u16, list: &[u8], step: Step) -> Reply
-    requires region_value { good region.old ≡ true }
-    requires tested { Tested list.now 0 0 }
-    requires count_value { count ≡ length (ops_in list.now) }
-    ensures { Says (journal_all flat (ops_in list.now)) region.old script.now
-        step region.new result.answer result.state result.calls [] }
-{
-    let journalled = journal(region, script, list, step);
-    let ItemAnswer::Done(next) = journalled else {
-        return gate::refused(items::why(journalled), Health::Debris);
-    };
-    commit(region, script, count, list, next)
-}
-
-// A batch of so many operations: none is done at once; else the tests, the recovery unless Clean, and the journal.
-#[tactic(auto, using(crate::proofs::Batching::batch_empty))]
-fn batch(
+fn journal_all<S: OpSource>(
     region: &mut [u8],
     script: &[u8],
-    list: &[u8],
+    source: &S,
+    count: u16,
+    step: Step,
+) -> Reply<Answer>
+    requires region_value { good region.old ≡ true }
+    requires tested { Tested (S.left source.now 0) 0 }
+    requires count_value { count ≡ length (those (S.left source.now 0)) }
+    ensures { Says (journal_all flat (those (S.left source.now 0))) region.old script.now
+        step region.new result.answer result.state result.calls [] }
+{
+    match go_over::<Journal, S>(region, script, source, step) {
+        Ok(next) => commit(region, script, source, count, next),
+        Err(failed) => gate::refused(failed, Health::Debris),
+    }
+}
+
+// A batch of so many operations that passed their tests: none is done at once; else the recovery unless Clean, and
+// the journal.
+#[tactic(auto, using(crate::proofs::Batching::batch_empty))]
+fn batch<S: OpSource>(
+    region: &mut [u8],
+    script: &[u8],
+    source: &S,
     count: usize,
     health: Health,
     step: Step,
-) -> Reply
+) -> Reply<Answer>
     requires region_value { good region.old ≡ true }
-    requires walk { Walk list.now 0 }
-    requires count_value { count ≡ length (ops_in list.now) }
-    ensures { Says (Calls.batch flat (ops_in list.now) health) region.old
+    requires passes { Passes (S.left source.now 0) (Ok count) }
+    ensures { Says (Calls.batch flat (those (S.left source.now 0)) health) region.old
         script.now step region.new result.answer result.state result.calls [] }
 {
     if count == 0 {
-        return gate::reply(Answer::Ok, health, step);
+        return gate::reply(Ok(()), health, step);
     }
-    if let Checked::Refused(fault) = check_batch(list, count) {
-        return gate::reply(Answer::Refused(fault), health, step);
+    match gate::converge(region, script, gate::is_unclean(health), health, step) {
+        Ok((_, next)) => journal_all(region, script, source, count as u16, next),
+        Err(failed) => gate::refused(failed, health),
     }
-    let needed = gate::is_unclean(health);
-    let converged = gate::converge(region, script, needed, health, step);
-    let Converged::Ready(_, next) = converged else {
-        return gate::refused(gate::why(converged), health);
-    };
-    journal_all(region, script, count as u16, list, next)
 }
 
-// The list's shape, before anything of its operations.
-fn batch_of(region: &mut [u8], script: &[u8], list: &[u8], health: Health, step: Step) -> Reply
-    requires { good region.old ≡ true }
-    ensures { Says (batch_of flat (ops_of list.now) health) region.old
+// A batch by what its tests said: a refusal of theirs makes no item call.
+pub fn batch_of<S: OpSource>(
+    region: &mut [u8],
+    script: &[u8],
+    source: &S,
+    tested: Result<usize, Fault>,
+    health: Health,
+    step: Step,
+) -> Reply<Answer>
+    requires region_value { good region.old ≡ true }
+    requires passes { Passes (S.left source.now 0) tested }
+    ensures { Says (batch_of flat (S.left source.now 0) health) region.old
         script.now step region.new result.answer result.state result.calls [] }
 {
-    let Shape::Listed(count) = oplist::shape_of(list) else {
-        return gate::reply(Answer::Refused(Fault::BadList), health, step);
-    };
-    batch(region, script, list, count, health, step)
+    match tested {
+        Ok(count) => batch(region, script, source, count, health, step),
+        Err(fault) => gate::reply(Err(fault), health, step),
+    }
 }
+
+// ---- over a list
 
 // Does the operations of a list, all or none. Refusals, in order: 7 for a bad image and 17 for a list that is none; 2
 // for more than 65534 operations, and for each operation 2 for its key's length, 3 for a reserved key and 2 for its
@@ -226,17 +270,20 @@ fn batch_of(region: &mut [u8], script: &[u8], list: &[u8], health: Health, step:
 // while journalling, which leaves Debris and the batch out; 16 where nobody knows whether the marker stands, which
 // leaves Pending; and from the commit point on 15, which means that the batch is in and the next call lands it. An
 // empty list is Ok at once. On the console: `batch put a 2; del b` says `batch ok 8 clean`.
-pub fn apply_batch(region: &mut [u8], script: &[u8], state: State, list: &[u8]) -> Reply
+pub fn apply_batch(region: &mut [u8], script: &[u8], state: State, list: &[u8]) -> Reply<Answer>
     ensures { outcome result.answer result.state result.calls region.new []
         ≡ apply_batch region.old script.now state list.now }
 {
     if !region::is_good(region) {
-        return Reply {
-            answer: Answer::Refused(Fault::Corrupted),
-            state: state,
-            calls: 0,
-        };
+        return gate::unchanged(Err(Fault::Corrupted), state);
     }
-    let health = state.health;
-    batch_of(region, script, list, health, gate::begin(state))
+    let source = OpList(list);
+    batch_of(
+        region,
+        script,
+        &source,
+        tested(&source),
+        state.health,
+        gate::begin(state),
+    )
 }

@@ -2,45 +2,40 @@
 -- that are an equation of the answer alone (`Key::get_len`, `Key::order`, `reserved`, the keys and the marker
 -- written, an entry's parts) are definition/proofs/Determined's first law.
 use mathlib.Core.Path.{◌≡◌, sym, ap, ◌∙◌}
-use mathlib.Core.Option.{Option}
+use Rattle.std.specs.Prelude.{Option, Result}
 use Prim.Native.Nat.{ℕ}
 use lib.ListN.{length}
 use Rattle.definition.specs.Tools.{Bytes}
-use Rattle.definition.specs.Codec.{Op, key_write, key_bytes, key_in, laid_if, encode}
+use Rattle.definition.specs.Codec.{Op, key_write, key_bytes, laid_if, encode}
 use Rattle.definition.specs.declared.Fault.{Fault}
-use Rattle.definition.specs.declared.CodecAnswer.{CodecAnswer}
+use Rattle.definition.specs.Answers.{CodecAnswer}
 use Rattle.definition.specs.declared.Entry.{Entry}
-use Rattle.definition.specs.declared.Marker.{Marker}
 use Rattle.definition.proofs.Determined.{determined}
 use Rattle.marks.specs.Forms.{MarkerReads}
 use Rattle.entries.specs.Forms.{EntryReads}
-use Rattle.codec.specs.Forms.{padded, KeyReads, Checks, Encodes}
-use Rattle.codec.specs.declared.Checked.{Checked}
+use Rattle.codec.specs.Forms.{key_reads, Checks, Encodes}
+use Rattle.codec.specs.declared.KeyRead.{KeyRead}
 
 -- ---- answers
 
-pub marker_determined : {v : Bytes} {m n : Marker} → MarkerReads v m → MarkerReads v n → m ≡ n
+pub marker_determined : {v : Bytes} {m n : Option ℕ} → MarkerReads v m → MarkerReads v n → m ≡ n
 marker_determined a b = determined a.is b.is
 
 pub entry_determined : {v : Bytes} {e f : Entry} → EntryReads v e → EntryReads v f → e ≡ f
 entry_determined a b = determined a.is b.is
 
-pub check_determined : {tests : Option Fault} {k v : Bytes} {r q : Checked} → Checks tests k v r → Checks tests k v q
+pub check_determined : {tests : Option Fault} {k v : Bytes} {r q : Result (Unit {0}) Fault} → Checks tests k v r → Checks tests k v q
     → r ≡ q
 check_determined a b = determined a.is b.is
+
+pub read_determined : (s : Bytes) {r q : Result KeyRead Fault} → r ≡ key_reads s → q ≡ key_reads s → r ≡ q
+read_determined s a b = determined a b
 
 -- ---- answers, and what is made by them
 
 -- where the answer is determined, so is what is a function of it
 with_it : {X : Type 0} {r q : CodecAnswer} {x y : X} (made : CodecAnswer → X) → r ≡ q → x ≡ made r → y ≡ made q → x ≡ y
 with_it made e a b = a ∙ ap made e ∙ sym b
-
-pub read_determined : {s bytes other : Bytes} {r q : CodecAnswer} {m n : ℕ} → KeyReads s r bytes m
-    → KeyReads s q other n
-    → (r ≡ q) × (bytes ≡ other) × (m ≡ n)
-read_determined {s} a b =
-    let e = determined a.is b.is in
-    (e, with_it (λ x. padded (key_in x s)) e a.key b.key, with_it (λ x. length (key_in x s)) e a.long b.long)
 
 pub write_determined : (key out : Bytes) {after other : Bytes} {r q : CodecAnswer}
     → (r ≡ key_write key (length out)) × (after ≡ laid_if r (key_bytes key) out)

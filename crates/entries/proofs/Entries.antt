@@ -1,6 +1,7 @@
 -- What each return of the functions says, over plain variables.
 use mathlib.Core.Path.{◌≡◌, refl, sym, ap, ◌∙◌, subst}
 use mathlib.Core.Bool.{Bool, true, false}
+use mathlib.Core.Logic.{◌⊎◌, inl, inr}
 use mathlib.Core.List.{[]}
 use Prim.Native.Nat.{ℕ, ◌+◌, ◌-◌, ◌<◌, ◌≤◌}
 use native.Mathlib.Omega.{arith}
@@ -84,34 +85,32 @@ module _ (v : Bytes) where
               record { is = past_key (passed _ _ _ (is_reserved ∙ h4) (passed _ _ _ (ne_eqb _ _ n) (passed _ _ _ (ne_eqb _ _ o) refl))); inside = tt }
 
 -- the parts of an entry that was decoded
-module _ (v : Bytes) {e : Entry} {n : ℕ} (r : EntryReads v e) where
-  pub put_inside : e ≡ E.Put n → (2 + n ≤ length v) × (n ≤ 96) × (length v ≤ 258 + n)
+module _ (v : Bytes) {e : Entry} (r : EntryReads v e) where
+  pub put_inside : {n : ℕ} → e ≡ E.Put n → (2 + n ≤ length v) × (n ≤ 96) × (length v ≤ 258 + n)
   put_inside q = subst (Inside v) q r.inside
 
-  pub delete_inside : e ≡ E.Delete n → (2 + n ≤ length v) × (n ≤ 96)
-  delete_inside q = subst (Inside v) q r.inside
-
-  pub put_key : e ≡ E.Put n → take (2 + n - 2) (drop 2 v) ≡ key_part (entry_of v) v
+  pub key_read : {n : ℕ} → (e ≡ E.Put n) ⊎ (e ≡ E.Delete n) → take (2 + n - 2) (drop 2 v) ≡ key_part (entry_of v) v
   unfolding key_part
-  put_key q = let z : 2 + n - 2 ≡ n = omega arith in ap (λ k. take k (drop 2 v)) z ∙ ap (λ x. key_part x v) (sym q ∙ r.is)
+  key_read {n} o =
+      let z : 2 + n - 2 ≡ n = omega arith in ap (λ k. take k (drop 2 v)) z ∙ go o
+    where
+      go : (e ≡ E.Put n) ⊎ (e ≡ E.Delete n) → take n (drop 2 v) ≡ key_part (entry_of v) v
+      go (inl q) = ap (λ x. key_part x v) (sym q ∙ r.is)
+      go (inr q) = ap (λ x. key_part x v) (sym q ∙ r.is)
 
-  pub delete_key_part : e ≡ E.Delete n → take (2 + n - 2) (drop 2 v) ≡ key_part (entry_of v) v
+  pub no_key : e ≡ E.Corrupt → [] ≡ key_part (entry_of v) v
   unfolding key_part
-  delete_key_part q = let z : 2 + n - 2 ≡ n = omega arith in ap (λ k. take k (drop 2 v)) z ∙ ap (λ x. key_part x v) (sym q ∙ r.is)
+  no_key q = ap (λ x. key_part x v) (sym q ∙ r.is)
 
-  pub put_value : e ≡ E.Put n → take (length v - (2 + n)) (drop (2 + n) v) ≡ value_part (entry_of v) v
+  pub value_read : {n : ℕ} → e ≡ E.Put n → take (length v - (2 + n)) (drop (2 + n) v) ≡ value_part (entry_of v) v
   unfolding value_part
-  put_value q = take_all (length v - (2 + n)) (drop (2 + n) v) (simp length-drop (omega arith)) ∙ ap (λ x. value_part x v) (sym q ∙ r.is)
+  value_read {n} q =
+      take_all (length v - (2 + n)) (drop (2 + n) v) (simp length-drop (omega arith)) ∙ ap (λ x. value_part x v) (sym q ∙ r.is)
 
-  pub delete_value : e ≡ E.Delete n → [] ≡ value_part (entry_of v) v
+  pub no_value : ((n : ℕ) × (e ≡ E.Delete n)) ⊎ (e ≡ E.Corrupt) → [] ≡ value_part (entry_of v) v
   unfolding value_part
-  delete_value q = ap (λ x. value_part x v) (sym q ∙ r.is)
+  no_value (inl q) = ap (λ x. value_part x v) (sym q.1 ∙ r.is)
+  no_value (inr q) = ap (λ x. value_part x v) (sym q ∙ r.is)
 
-module _ (v : Bytes) {e : Entry} (r : EntryReads v e) where
-  pub corrupt_key : e ≡ E.Corrupt → [] ≡ key_part (entry_of v) v
-  unfolding key_part
-  corrupt_key q = ap (λ x. key_part x v) (sym q ∙ r.is)
-
-  pub corrupt_value : e ≡ E.Corrupt → [] ≡ value_part (entry_of v) v
-  unfolding value_part
-  corrupt_value q = ap (λ x. value_part x v) (sym q ∙ r.is)
+-- what each return of `decode_entry` says
+pub ruleset entry_tests = (entry_head, entry_short, entry_long, entry_reserved, entry_value_long, entry_put, entry_delete, entry_unknown)

@@ -9,7 +9,7 @@ ghost use Rattle.entries.specs.Forms.{EntryReads};
 use definition::{ENTRY_HEAD, Entry, MAX_KEY_LEN, MAX_VALUE_LEN, OP_DELETE, OP_PUT};
 
 // What a journal entry's bytes say, tested in document 01's order.
-#[tactic(auto, using(crate::proofs::Entries::entry_delete, crate::proofs::Entries::entry_value_long))]
+#[tactic(auto, using(crate::proofs::Entries::entry_tests))]
 pub fn decode_entry(entry: &[u8]) -> Entry
     ensures { EntryReads entry.now result }
 {
@@ -27,47 +27,32 @@ pub fn decode_entry(entry: &[u8]) -> Entry
     if marks::reserved(&entry[ENTRY_HEAD..to]) {
         return Entry::Corrupt;
     }
-    let op = entry[0];
-    if op == OP_PUT {
-        let value = entry.len() - to;
-        if MAX_VALUE_LEN < value {
-            return Entry::Corrupt;
-        }
-        return Entry::Put(n);
+    match entry[0] {
+        OP_PUT if MAX_VALUE_LEN < entry.len() - to => Entry::Corrupt,
+        OP_PUT => Entry::Put(n),
+        OP_DELETE => Entry::Delete(n),
+        _ => Entry::Corrupt,
     }
-    if op == OP_DELETE {
-        return Entry::Delete(n);
-    }
-    Entry::Corrupt
 }
 
 // The key part of a journal entry; an empty part where the entry is corrupt.
+#[tactic(auto, using(crate::proofs::Entries::key_read, crate::proofs::Entries::no_key))]
 pub fn key_part(entry: &[u8]) -> &[u8]
     ensures { result.now ≡ key_part (entry_of entry.now) entry.now }
 {
     match decode_entry(entry) {
-        Entry::Put(n) => {
-            let to = ENTRY_HEAD + n;
-            &entry[ENTRY_HEAD..to]
-        }
-        Entry::Delete(n) => {
-            let to = ENTRY_HEAD + n;
-            &entry[ENTRY_HEAD..to]
-        }
-        Entry::Corrupt => &entry[0..0],
+        Entry::Put(n) | Entry::Delete(n) => &entry[ENTRY_HEAD..ENTRY_HEAD + n],
+        Entry::Corrupt => &[],
     }
 }
 
 // The value part of a journal entry; an empty part where there is none.
+#[tactic(auto, using(crate::proofs::Entries::value_read, crate::proofs::Entries::no_value))]
 pub fn value_part(entry: &[u8]) -> &[u8]
     ensures { result.now ≡ value_part (entry_of entry.now) entry.now }
 {
     match decode_entry(entry) {
-        Entry::Put(n) => {
-            let from = ENTRY_HEAD + n;
-            &entry[from..]
-        }
-        Entry::Delete(n) => &entry[0..0],
-        Entry::Corrupt => &entry[0..0],
+        Entry::Put(n) => &entry[ENTRY_HEAD + n..],
+        Entry::Delete(_) | Entry::Corrupt => &[],
     }
 }

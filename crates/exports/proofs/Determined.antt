@@ -4,33 +4,17 @@
 use mathlib.Core.Path.{◌≡◌}
 use Rattle.definition.specs.Tools.{Bytes}
 use Rattle.definition.specs.Public.{Outcome}
-use Rattle.definition.specs.declared.CodecAnswer.{CodecAnswer}
-use Rattle.definition.specs.declared.Answer.{Answer}
-use Rattle.definition.specs.declared.GetAnswer.{GetAnswer}
-use Rattle.definition.specs.declared.TruthAnswer.{TruthAnswer}
-use Rattle.definition.specs.declared.Scanned.{Scanned}
+use Rattle.definition.specs.Answers.{CodecAnswer}
 use Rattle.definition.proofs.Determined.{determined}
 use Rattle.exports.specs.declared.CReply.{CReply}
+use Rattle.exports.specs.declared.Word.{Word}
 use Rattle.exports.specs.declared.codecs.CCodec.{CCodec}
-use Rattle.exports.specs.Forms.{Replies, Truths, Gets, Lists}
+use Rattle.exports.specs.Forms.{Hears}
 use Rattle.exports.specs.Codecs.{Writes}
 
-module _ {r q : CReply} {region other : Bytes} where
-  pub reply_determined : {o : Outcome Answer} → Replies r region o → Replies q other o → (r ≡ q) × (region ≡ other)
-  reply_determined a b = (determined a.reply b.reply, determined a.bytes b.bytes)
-
-  pub truth_determined : {o : Outcome TruthAnswer} → Truths r region o → Truths q other o → (r ≡ q) × (region ≡ other)
-  truth_determined a b = (determined a.reply b.reply, determined a.bytes b.bytes)
-
-  pub get_determined : {output shown : Bytes} {o : Outcome GetAnswer} → Gets r region output o → Gets q other shown o
-      → (r ≡ q) × (region ≡ other) × (output ≡ shown)
-  get_determined a b =
-      (determined a.reply b.reply, determined a.bytes b.bytes, determined a.handed b.handed)
-
-  pub scan_determined : {output shown : Bytes} {o : Outcome Scanned} → Lists r region output o → Lists q other shown o
-      → (r ≡ q) × (region ≡ other) × (output ≡ shown)
-  scan_determined a b =
-      (determined a.reply b.reply, determined a.bytes b.bytes, determined a.made b.made)
+pub reply_determined : {A : Type 0} {out : A → Word} {r q : CReply} {region other output shown : Bytes} {o : Outcome A} → Hears out r region output o → Hears out q other shown o
+    → (r ≡ q) × (region ≡ other) × (output ≡ shown)
+reply_determined a b = (determined a.reply b.reply, determined a.bytes b.bytes, determined a.handed b.handed)
 
 -- the two codecs that write; what the others answer is an equation, as `takes_space`'s
 pub written_determined : {a : CodecAnswer} {made out after other : Bytes} {r q : CCodec} → Writes a made out r after

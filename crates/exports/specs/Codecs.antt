@@ -1,36 +1,31 @@
 -- What crosses of the codecs: an answer, a key that was read, and an order, as plain numbers.
-use Rattle.std.specs.Prelude.{◌≡◌, ℕ, length, eqb}
+use Rattle.std.specs.Prelude.{◌≡◌, ℕ, length, eqb, Ok, Err}
+use Rattle.std.specs.declared.cmp.Ordering.{Ordering}
+use Rattle.std.specs.declared.cmp.Ordering.TheVariants.{Less, Equal, Greater}
 use Rattle.definition.specs.Tools.{Bytes, pick}
-use Rattle.definition.specs.Numbers.{number}
 use Rattle.definition.specs.Codec.{key_in, laid_if}
-use Rattle.definition.specs.declared.Fault.{Fault}
-use Rattle.definition.specs.declared.CodecAnswer.{CodecAnswer}
-use Rattle.definition.specs.declared.CodecAnswer.TheVariants.{Len, Refused}
-use Rattle.definition.specs.declared.Order.{Order}
-use Rattle.definition.specs.declared.Order.TheVariants.{Less, Equal, Greater}
-use Rattle.numbers.specs.declared.Three.{Three}
-use Rattle.numbers.specs.Forms.{three_of, values_three}
+use Rattle.definition.specs.Answers.{CodecAnswer}
 use Rattle.codec.specs.Forms.{padded}
 use Rattle.codec.specs.declared.OpKind.{OpKind}
 use Rattle.codec.specs.declared.OpKind.TheVariants as K
+use Rattle.exports.specs.declared.Word.{Word}
 use Rattle.exports.specs.declared.codecs.CCodec.{CCodec}
 use Rattle.exports.specs.declared.codecs.CKey.{CKey}
+use Rattle.exports.specs.Forms.{says, refuses}
 
-abbrev pub codec_says : ℕ → ℕ → Three → ℕ → CCodec
-codec_says a n v len = record { answer = a; number = n; v0 = v.0; v1 = v.1; v2 = v.2; length = len }
-
-abbrev pub codec_refused : Fault → CCodec
-codec_refused f = codec_says 0 (number f) (values_three f) 0
+abbrev pub said_of : Word → CCodec
+said_of w =
+    record { answer = w.answer; number = w.number; v0 = w.values.0; v1 = w.values.1; v2 = w.values.2; length = w.length }
 
 abbrev pub codec_out : CodecAnswer → CCodec
-codec_out (Len n) = codec_says 1 0 (three_of 0 0 0) n
-codec_out (Refused f) = codec_refused f
+codec_out (Ok n) = said_of (says 1 0 n)
+codec_out (Err f) = said_of (refuses f 0 0)
 
 -- the answer to reading, and the key at the front of s that goes with it
 abbrev pub key_out : CodecAnswer → Bytes → CKey
 key_out a s = record { said = codec_out a; bytes = padded (key_in a s); len = length (key_in a s) }
 
-unfoldable pub order_number : Order → ℕ
+unfoldable pub order_number : Ordering → ℕ
 order_number Less = 0
 order_number Equal = 1
 order_number Greater = 2

@@ -3,10 +3,12 @@
 ghost use Rattle.std.specs.Prelude.{◌≡◌, length};
 ghost use Rattle.definition.specs.Codec.{key_read, key_write, key_bytes, key_length, order, encode, encode_into};
 ghost use Rattle.codec.specs.Forms.{op_as};
-ghost use Rattle.exports.specs.Codecs.{codec_refused, codec_out, order_number, kind_of, key_out, Writes};
+ghost use Rattle.exports.specs.Codecs.{codec_out, order_number, kind_of, key_out, Writes};
 
-use codec::{Key, OpKind};
-use definition::{CodecAnswer, Fault, Order};
+use crate::Word;
+use codec::{Key, KeyRead, OpKind};
+use definition::{CodecAnswer, MAX_KEY_LEN};
+use std::cmp::Ordering;
 
 // What a codec says. answer 1: so many bytes, taken, written or asked for; 0: refused, with document 01's number and
 // values.
@@ -26,49 +28,38 @@ pub struct CCodec {
 #[derive(Clone, Copy)]
 pub struct CKey {
     pub said: CCodec,
-    pub bytes: [u8; 96],
+    pub bytes: [u8; MAX_KEY_LEN],
     pub len: u64,
 }
 
-fn codec_refused(fault: Fault) -> CCodec
-    ensures { result ≡ codec_refused fault }
-{
-    let number = numbers::number(fault);
-    let values = numbers::values(fault);
-    CCodec {
-        answer: 0,
-        number: number as u64,
-        v0: values.0 as u64,
-        v1: values.1 as u64,
-        v2: values.2 as u64,
-        length: 0,
-    }
-}
+impl From<CodecAnswer> for CCodec {
+    ghost from_gives = { λ a r. r ≡ codec_out a };
 
-fn codec_out(answer: CodecAnswer) -> CCodec
-    ensures { result ≡ codec_out answer }
-{
-    match answer {
-        CodecAnswer::Len(n) => CCodec {
-            answer: 1,
-            number: 0,
-            v0: 0,
-            v1: 0,
-            v2: 0,
-            length: n as u64,
-        },
-        CodecAnswer::Refused(fault) => codec_refused(fault),
+    fn from(answer: CodecAnswer) -> CCodec {
+        let word = match answer {
+            Ok(n) => Word::says(1, 0, n as u64),
+            Err(fault) => Word::refuses(fault, 0, 0),
+        };
+        CCodec {
+            answer: word.answer,
+            number: word.number,
+            v0: word.values.0 as u64,
+            v1: word.values.1 as u64,
+            v2: word.values.2 as u64,
+            length: word.length,
+        }
     }
 }
 
 // 0 less, 1 equal, 2 greater.
-fn order_number(order: Order) -> u64
+#[tactic(auto, unfolding(crate::specs::Codecs::order_number))]
+fn order_number(order: Ordering) -> u64
     ensures { result ≡ order_number order }
 {
     match order {
-        Order::Less => 0,
-        Order::Equal => 1,
-        Order::Greater => 2,
+        Ordering::Less => 0,
+        Ordering::Equal => 1,
+        Ordering::Greater => 2,
     }
 }
 
@@ -86,15 +77,20 @@ fn kind_of(number: u64) -> OpKind
 pub extern "C" fn takes_key_read(buffer: &[u8]) -> CKey
     ensures { result ≡ key_out (key_read buffer.now) buffer.now }
 {
-    let read = Key::read(buffer);
-    let answer = read.answer;
-    let key = read.key;
-    let bytes = key.bytes;
-    let said = codec_out(answer);
-    CKey {
-        said: said,
-        bytes: bytes,
-        len: key.len as u64,
+    match Key::read(buffer) {
+        Ok(KeyRead { key, taken }) => {
+            let bytes = key.bytes;
+            CKey {
+                said: CCodec::from(Ok(taken)),
+                bytes,
+                len: key.len as u64,
+            }
+        }
+        Err(fault) => CKey {
+            said: CCodec::from(Err(fault)),
+            bytes: [0; MAX_KEY_LEN],
+            len: 0,
+        },
     }
 }
 
@@ -103,14 +99,14 @@ pub extern "C" fn takes_key_write(key: &[u8], out: &mut [u8]) -> CCodec
     ensures { Writes (key_write key.now (length out.old)) (key_bytes key.now)
         out.old result out.new }
 {
-    codec_out(Key::write(key, out))
+    CCodec::from(Key::write(key, out))
 }
 
 #[unsafe(no_mangle)]
 pub extern "C" fn takes_key_len(buffer: &[u8]) -> CCodec
     ensures { result ≡ codec_out (key_length buffer.now) }
 {
-    codec_out(Key::get_len(buffer))
+    CCodec::from(Key::get_len(buffer))
 }
 
 #[unsafe(no_mangle)]
@@ -127,5 +123,5 @@ pub extern "C" fn takes_entry_write(kind: u64, key: &[u8], value: &[u8], out: &m
         result out.new }
 {
     let kind = kind_of(kind);
-    codec_out(codec::encode_op(kind, key, value, out))
+    CCodec::from(codec::encode_op(kind, key, value, out))
 }

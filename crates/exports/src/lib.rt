@@ -4,13 +4,12 @@
 
 mod codecs;
 
-ghost use Rattle.std.specs.Prelude.{◌≡◌};
+ghost use Rattle.std.specs.Prelude.{◌≡◌, []};
 ghost use Rattle.definition.specs.Public;
-ghost use Rattle.exports.specs.Forms.{health_number, health_of, flag_number, state_in, space_out, built, refused, answer_out, get_out, truth_out, end_out, scan_out, Replies, Gets, Truths, Lists};
+ghost use Rattle.exports.specs.Forms.{health_of, state_in, space_out, says, refuses, answer_out, get_out, truth_out, scan_out, built, Hears};
 
 use definition::{
-    Answer, BatchOp, Fault, GetAnswer, GetReply, Health, Reply, ScanEnd, ScanReply, Space, State,
-    TruthAnswer, TruthReply,
+    Answer, BatchOp, Fault, GetAnswer, Health, ScanEnd, Scanned, Space, State, TruthAnswer,
 };
 use numbers::Three;
 
@@ -60,16 +59,6 @@ pub struct CSpace {
     pub takes: u64,
 }
 
-fn health_number(health: Health) -> u64
-    ensures { result ≡ health_number health }
-{
-    match health {
-        Health::Clean => 0,
-        Health::Debris => 1,
-        Health::Pending => 2,
-    }
-}
-
 // A number that is no health is taken for Pending, which recovers before anything is read.
 fn health_of(number: u64) -> Health
     ensures { result ≡ health_of number }
@@ -83,160 +72,153 @@ fn health_of(number: u64) -> Health
     Health::Pending
 }
 
-fn flag_number(flag: bool) -> u64
-    ensures { result ≡ flag_number flag }
-{
-    if flag {
-        return 1;
-    }
-    0
-}
+impl From<CState> for State {
+    ghost from_gives = { λ c r. r ≡ state_in c };
 
-fn state_in(state: CState) -> State
-    ensures { result ≡ state_in state }
-{
-    let health = health_of(state.health);
-    let cut = state.cut != 0;
-    let space = Space {
-        used: state.used as usize,
-        free: state.free as usize,
-        takes: state.takes as usize,
-    };
-    State {
-        health: health,
-        at: state.at as usize,
-        cut: cut,
-        space: space,
+    fn from(state: CState) -> State {
+        State {
+            health: health_of(state.health),
+            at: state.at as usize,
+            cut: state.cut != 0,
+            space: Space {
+                used: state.used as usize,
+                free: state.free as usize,
+                takes: state.takes as usize,
+            },
+        }
     }
 }
 
-fn built_of(
+impl From<Space> for CSpace {
+    ghost from_gives = { λ n r. r ≡ space_out n };
+
+    fn from(space: Space) -> CSpace {
+        CSpace {
+            used: space.used as u64,
+            free: space.free as u64,
+            takes: space.takes as u64,
+        }
+    }
+}
+
+// ---- answers
+
+// What a host hears of an answer: its number, a refusal's number and values, and what stands in the output.
+#[derive(Clone, Copy)]
+struct Word {
     answer: u64,
     number: u64,
     values: Three,
     count: u64,
     length: u64,
-    state: State,
-    calls: u64,
-) -> CReply
-    ensures { result ≡ built answer number values count length state calls }
-{
-    let kept = state.health;
-    let health = health_number(kept);
-    let cut = flag_number(state.cut);
-    let space = state.space;
-    CReply {
-        answer: answer,
-        number: number,
-        v0: values.0 as u64,
-        v1: values.1 as u64,
-        v2: values.2 as u64,
-        count: count,
-        length: length,
-        health: health,
-        at: state.at as u64,
-        cut: cut,
-        used: space.used as u64,
-        free: space.free as u64,
-        takes: space.takes as u64,
-        calls: calls,
+}
+
+impl Word {
+    fn says(answer: u64, count: u64, length: u64) -> Word
+        ensures { result ≡ says answer count length }
+    {
+        Word {
+            answer,
+            number: 0,
+            values: Three(0, 0, 0),
+            count,
+            length,
+        }
+    }
+
+    fn refuses(fault: Fault, count: u64, length: u64) -> Word
+        ensures { result ≡ refuses fault count length }
+    {
+        Word {
+            answer: 0,
+            number: numbers::number(fault) as u64,
+            values: numbers::values(fault),
+            count,
+            length,
+        }
     }
 }
 
-fn refused_of(fault: Fault, count: u64, length: u64, state: State, calls: u64) -> CReply
-    ensures { result ≡ refused fault count length state calls }
-{
-    let number = numbers::number(fault);
-    let values = numbers::values(fault);
-    built_of(0, number as u64, values, count, length, state, calls)
-}
+impl From<Answer> for Word {
+    ghost from_gives = { λ a r. r ≡ answer_out a };
 
-fn answer_out(answer: Answer, state: State, calls: u64) -> CReply
-    ensures { result ≡ answer_out answer state calls }
-{
-    match answer {
-        Answer::Ok => built_of(1, 0, Three(0, 0, 0), 0, 0, state, calls),
-        Answer::Refused(fault) => refused_of(fault, 0, 0, state, calls),
+    fn from(answer: Answer) -> Word {
+        match answer {
+            Ok(()) => Word::says(1, 0, 0),
+            Err(fault) => Word::refuses(fault, 0, 0),
+        }
     }
 }
 
-fn get_out(answer: GetAnswer, state: State, calls: u64) -> CReply
-    ensures { result ≡ get_out answer state calls }
-{
-    match answer {
-        GetAnswer::Found(len) => built_of(1, 0, Three(0, 0, 0), 0, len as u64, state, calls),
-        GetAnswer::Absent => built_of(2, 0, Three(0, 0, 0), 0, 0, state, calls),
-        GetAnswer::Refused(fault) => refused_of(fault, 0, 0, state, calls),
+impl From<GetAnswer> for Word {
+    ghost from_gives = { λ a r. r ≡ get_out a };
+
+    fn from(answer: GetAnswer) -> Word {
+        match answer {
+            Ok(Some(len)) => Word::says(1, 0, len as u64),
+            Ok(None) => Word::says(2, 0, 0),
+            Err(fault) => Word::refuses(fault, 0, 0),
+        }
     }
 }
 
-fn truth_out(answer: TruthAnswer, state: State, calls: u64) -> CReply
-    ensures { result ≡ truth_out answer state calls }
-{
-    match answer {
-        TruthAnswer::Yes => built_of(1, 0, Three(0, 0, 0), 0, 0, state, calls),
-        TruthAnswer::No => built_of(2, 0, Three(0, 0, 0), 0, 0, state, calls),
-        TruthAnswer::Refused(fault) => refused_of(fault, 0, 0, state, calls),
+impl From<TruthAnswer> for Word {
+    ghost from_gives = { λ a r. r ≡ truth_out a };
+
+    fn from(answer: TruthAnswer) -> Word {
+        match answer {
+            Ok(true) => Word::says(1, 0, 0),
+            Ok(false) => Word::says(2, 0, 0),
+            Err(fault) => Word::refuses(fault, 0, 0),
+        }
     }
 }
 
 // A refused scan keeps the count and the length of the records that stand.
-fn scan_out(end: ScanEnd, count: u64, length: u64, state: State, calls: u64) -> CReply
-    ensures { result ≡ end_out end count length state calls }
-{
-    match end {
-        ScanEnd::Finished => built_of(1, 0, Three(0, 0, 0), count, length, state, calls),
-        ScanEnd::Stopped => built_of(2, 0, Three(0, 0, 0), count, length, state, calls),
-        ScanEnd::NoRoom => built_of(3, 0, Three(0, 0, 0), count, length, state, calls),
-        ScanEnd::Refused(fault) => refused_of(fault, count, length, state, calls),
+impl From<Scanned> for Word {
+    ghost from_gives = { λ a r. r ≡ scan_out a };
+
+    fn from(scanned: Scanned) -> Word {
+        let count = scanned.count as u64;
+        let length = scanned.length as u64;
+        match scanned.end {
+            Ok(ScanEnd::Finished) => Word::says(1, count, length),
+            Ok(ScanEnd::Stopped) => Word::says(2, count, length),
+            Ok(ScanEnd::NoRoom) => Word::says(3, count, length),
+            Err(fault) => Word::refuses(fault, count, length),
+        }
     }
 }
 
-fn scan_reply_out(reply: ScanReply) -> CReply
-    ensures { result ≡ scan_out reply.answer reply.state reply.calls }
+#[tactic(auto, using(crate::proofs::HandedBack::health_place), unfolding(crate::specs::Forms::flag_number))]
+fn built(word: Word, state: State, calls: u64) -> CReply
+    ensures { result ≡ built word state calls }
 {
-    let answer = reply.answer;
-    let end = answer.end;
-    let state = reply.state;
-    scan_out(
-        end,
-        answer.count as u64,
-        answer.length as u64,
-        state,
-        reply.calls,
-    )
-}
-
-fn reply_out(reply: Reply) -> CReply
-    ensures { result ≡ answer_out reply.answer reply.state reply.calls }
-{
-    let answer = reply.answer;
-    let state = reply.state;
-    answer_out(answer, state, reply.calls)
-}
-
-fn get_reply_out(reply: GetReply) -> CReply
-    ensures { result ≡ get_out reply.answer reply.state reply.calls }
-{
-    let answer = reply.answer;
-    let state = reply.state;
-    get_out(answer, state, reply.calls)
-}
-
-fn truth_reply_out(reply: TruthReply) -> CReply
-    ensures { result ≡ truth_out reply.answer reply.state reply.calls }
-{
-    let answer = reply.answer;
-    let state = reply.state;
-    truth_out(answer, state, reply.calls)
+    CReply {
+        answer: word.answer,
+        number: word.number,
+        v0: word.values.0 as u64,
+        v1: word.values.1 as u64,
+        v2: word.values.2 as u64,
+        count: word.count,
+        length: word.length,
+        health: state.health as u64,
+        at: state.at as u64,
+        cut: state.cut as u64,
+        used: state.space.used as u64,
+        free: state.space.free as u64,
+        takes: state.space.takes as u64,
+        calls,
+    }
 }
 
 #[unsafe(no_mangle)]
 pub extern "C" fn takes_mount(region: &mut [u8], script: &[u8], start: u32, at: u64) -> CReply
-    ensures { Replies result region.new (Public.mount region.old script.now start
+    ensures { Hears answer_out result region.new [] (Public.mount region.old script.now start
         at) }
 {
-    reply_out(store::mount(region, script, start, at as usize))
+    let reply = store::mount(region, script, start, at as usize);
+    built(Word::from(reply.answer), reply.state, reply.calls)
 }
 
 #[unsafe(no_mangle)]
@@ -247,11 +229,11 @@ pub extern "C" fn takes_get(
     key: &[u8],
     out: &mut [u8],
 ) -> CReply
-    ensures { Gets result region.new out.new
+    ensures { Hears get_out result region.new out.new
         (Public.get region.old script.now (state_in state) key.now out.old) }
 {
-    let state = state_in(state);
-    get_reply_out(store::get(region, script, state, key, out))
+    let reply = store::get(region, script, State::from(state), key, out);
+    built(Word::from(reply.answer), reply.state, reply.calls)
 }
 
 #[unsafe(no_mangle)]
@@ -261,11 +243,11 @@ pub extern "C" fn takes_contains(
     state: CState,
     key: &[u8],
 ) -> CReply
-    ensures { Truths result region.new (Public.contains region.old script.now
+    ensures { Hears truth_out result region.new [] (Public.contains region.old script.now
         (state_in state) key.now) }
 {
-    let state = state_in(state);
-    truth_reply_out(store::contains(region, script, state, key))
+    let reply = store::contains(region, script, State::from(state), key);
+    built(Word::from(reply.answer), reply.state, reply.calls)
 }
 
 #[unsafe(no_mangle)]
@@ -276,11 +258,11 @@ pub extern "C" fn takes_put(
     key: &[u8],
     value: &[u8],
 ) -> CReply
-    ensures { Replies result region.new (Public.put region.old script.now (state_in
+    ensures { Hears answer_out result region.new [] (Public.put region.old script.now (state_in
         state) key.now value.now) }
 {
-    let state = state_in(state);
-    reply_out(store::put(region, script, state, key, value))
+    let reply = store::put(region, script, State::from(state), key, value);
+    built(Word::from(reply.answer), reply.state, reply.calls)
 }
 
 #[unsafe(no_mangle)]
@@ -290,11 +272,11 @@ pub extern "C" fn takes_delete(
     state: CState,
     key: &[u8],
 ) -> CReply
-    ensures { Truths result region.new (Public.delete region.old script.now (state_in
+    ensures { Hears truth_out result region.new [] (Public.delete region.old script.now (state_in
         state) key.now) }
 {
-    let state = state_in(state);
-    truth_reply_out(store::delete(region, script, state, key))
+    let reply = store::delete(region, script, State::from(state), key);
+    built(Word::from(reply.answer), reply.state, reply.calls)
 }
 
 #[unsafe(no_mangle)]
@@ -304,11 +286,11 @@ pub extern "C" fn takes_batch(
     state: CState,
     list: &[u8],
 ) -> CReply
-    ensures { Replies result region.new (Public.apply_batch region.old script.now
+    ensures { Hears answer_out result region.new [] (Public.apply_batch region.old script.now
         (state_in state) list.now) }
 {
-    let state = state_in(state);
-    reply_out(batch::apply_batch(region, script, state, list))
+    let reply = batch::apply_batch(region, script, State::from(state), list);
+    built(Word::from(reply.answer), reply.state, reply.calls)
 }
 
 #[unsafe(no_mangle)]
@@ -319,11 +301,11 @@ pub extern "C" fn takes_ops(
     ops: &[BatchOp],
     pool: &[u8],
 ) -> CReply
-    ensures { Replies result region.new (Public.apply_ops region.old script.now
+    ensures { Hears answer_out result region.new [] (Public.apply_ops region.old script.now
         (state_in state) ops.now pool.now) }
 {
-    let state = state_in(state);
-    reply_out(operations::apply_ops(region, script, state, ops, pool))
+    let reply = operations::apply_ops(region, script, State::from(state), ops, pool);
+    built(Word::from(reply.answer), reply.state, reply.calls)
 }
 
 #[unsafe(no_mangle)]
@@ -335,22 +317,24 @@ pub extern "C" fn takes_scan(
     most: u64,
     out: &mut [u8],
 ) -> CReply
-    ensures { Lists result region.new out.new
+    ensures { Hears scan_out result region.new out.new
         (Public.scan_prefix region.old script.now (state_in state) prefix.now most
         out.old) }
 {
-    let state = state_in(state);
-    scan_reply_out(listing::scan_prefix(region, script, state, prefix, most as usize, out))
+    let reply = listing::scan_prefix(
+        region,
+        script,
+        State::from(state),
+        prefix,
+        most as usize,
+        out,
+    );
+    built(Word::from(reply.answer), reply.state, reply.calls)
 }
 
 #[unsafe(no_mangle)]
 pub extern "C" fn takes_space(state: CState) -> CSpace
     ensures { result ≡ space_out (Public.space (state_in state)) }
 {
-    let space = store::space(state_in(state));
-    CSpace {
-        used: space.used as u64,
-        free: space.free as u64,
-        takes: space.takes as u64,
-    }
+    CSpace::from(store::space(State::from(state)))
 }

@@ -1,146 +1,136 @@
 -- How the proofs of get, contains and delete go along their calls.
-use mathlib.Core.Path.{◌≡◌, refl, sym, ap, ◌∙◌, subst}
-use mathlib.Core.Bool.{true}
-use mathlib.Core.Option.{Option, none, some}
-use mathlib.Core.List.{[]}
-use Prim.Native.Nat.{ℕ, ◌<◌, ◌≤◌}
-use native.Mathlib.Omega.{arith}
-use lib.ListN.{length, take, drop, length-drop}
-use lib.Seq.{length-take-le}
+use Rattle.std.proofs.Common.{Bool, arith, ◌+◌, ◌++◌, drop, ◌≡◌, refl, sym, ap, ◌∙◌, true, [], ℕ, ◌<◌, ◌≤◌, length, not, false}
+use Rattle.std.specs.Prelude.{Option, None, Some, Ok, Err, is_some}
+use Rattle.std.specs.Borrow.{Bor}
 use borrow.Author.Tests.{lt-ltb, le-ltb}
 use Rattle.definition.specs.Tools.{Bytes, opt}
 use Rattle.definition.specs.Codec.{laid}
 use Rattle.definition.specs.Region.{good}
 use Rattle.definition.specs.Program.{Prog, on_p, flat, fetch, remove}
 use Rattle.definition.specs.Calls.{Said, say, hand, get_key, contains_key, delete_key, delete_found}
-use Rattle.definition.proofs.Choices.{pick_yes, pick_no}
+use Rattle.definition.proofs.Choices.{pick_yes, pick_no, true≢false}
+use Rattle.definition.specs.Answers.{GetAnswer, TruthAnswer}
 use Rattle.definition.specs.declared.Step.{Step}
 use Rattle.definition.specs.declared.State.{State}
 use Rattle.definition.specs.declared.Fault.{Fault}
 use Rattle.definition.specs.declared.Fault.TheVariants.{OutputTooSmall}
 use Rattle.definition.specs.declared.Health.{Health}
-use Rattle.definition.specs.declared.GetAnswer.{GetAnswer}
-use Rattle.definition.specs.declared.GetAnswer.TheVariants as G
-use Rattle.definition.specs.declared.GetReply.{GetReply}
-use Rattle.definition.specs.declared.TruthAnswer.{TruthAnswer}
-use Rattle.definition.specs.declared.TruthAnswer.TheVariants as T
-use Rattle.definition.specs.Public.{outcome}
-use Rattle.region.specs.Places.{spotted}
-use Rattle.region.specs.declared.Spot.{Spot}
-use Rattle.region.specs.declared.Spot.TheVariants.{At, Nothing}
+use Rattle.slices.specs.Written.{written}
 use Rattle.items.specs.declared.Failure.{Failure}
-use Rattle.items.specs.declared.ItemAnswer.{ItemAnswer}
-use Rattle.items.specs.declared.ItemAnswer.TheVariants as I
-use Rattle.items.specs.declared.FetchAnswer.{FetchAnswer}
-use Rattle.items.specs.declared.FetchAnswer.TheVariants.{Got, Missed}
-use Rattle.items.specs.Forms.{Ran, Fetches, failure_of, unfetched_of}
-use Rattle.items.proofs.Along.{ran_done, fetch_done, fetch_inside}
-use Rattle.gate.specs.Forms.{Says, state_of}
+use Rattle.items.specs.Forms.{Answered, Fetched, failure, value_of, Ran, Fetches}
+use Rattle.items.proofs.Along.{ran_done, fetch_done}
+use Rattle.gate.specs.Forms.{Says, Tells}
 use Rattle.gate.proofs.Saying.{says_as, says_ret, says_on, says_failed, says_missed}
-use Rattle.finding.specs.Forms.{get_of, Gets}
+use Rattle.finding.specs.Forms.{Gets}
 
-pub get_outcome : {h : Health} {t : Step} {b out : Bytes} {a : GetAnswer} {u : GetReply} → u ≡ get_of a h t
-    → outcome u.answer u.state u.calls b out ≡ outcome a (state_of h t) t.calls b out
-get_outcome {b = b} {out = out} e = ap (λ (u : GetReply). outcome u.answer u.state u.calls b out) e
+-- a value laid at the front
+pub laid_front : (v out : Bytes) → written out 0 v ≡ laid v out
+unfolding written laid
+laid_front v out = let e : 0 + length v ≡ length v = omega arith in ap (λ (n : ℕ). v ++ drop n out) e
 
 -- a fetch, then what follows the value that was found, or that there is none
-module _ {A : Type 0} (k : Option Bytes → Prog Bytes (Said A)) (h : Fault → Prog Bytes (Said A)) {key s script : Bytes} {t : Step} {r : FetchAnswer} (g : good s ≡ true) (x : Fetches key s script t r)
-    {p : Spot} {t1 : Step} (e : r ≡ Got p t1) {b : Bytes} {a : A} {st : State} {n : ℕ} {out : Bytes} where
-  pub found_none : p ≡ Nothing → Says (k none) s script t1 b a st n out → Says (on_p (fetch flat key) k h) s script t b a st n out
-  unfolding spotted
-  found_none q y = says_on k h (fetch_done g x e) (subst (λ p. Says (k (spotted s p)) s script t1 b a st n out) (sym q) y)
+module _ {A : Type 0} (k : Option Bytes → Prog Bytes (Said A)) (h : Fault → Prog Bytes (Said A)) {key s script : Bytes} {t : Step} {r : Fetched} (g : good s ≡ true) (x : Fetches key s script t r)
+    {p : Option (Bor Bytes) × Step} (e : r ≡ Ok p) {b : Bytes} {a : A} {st : State} {n : ℕ} {out : Bytes} where
+  found_none : p.0 ≡ None → Says (k None) s script p.1 b a st n out → Says (on_p (fetch flat key) k h) s script t b a st n out
+  found_none q y = says_on k h (fetch_done g x e) (says_as (ap (λ o. k (value_of o)) q) y)
 
-  pub found_some : {at len : ℕ} → p ≡ At at len → Says (k (some (take len (drop at s)))) s script t1 b a st n out → Says (on_p (fetch flat key) k h) s script t b a st n out
-  unfolding spotted
-  found_some q y = says_on k h (fetch_done g x e) (subst (λ p. Says (k (spotted s p)) s script t1 b a st n out) (sym q) y)
+  found_some : {v : Bor Bytes} → p.0 ≡ Some v → Says (k (Some v.now)) s script p.1 b a st n out → Says (on_p (fetch flat key) k h) s script t b a st n out
+  found_some q y = says_on k h (fetch_done g x e) (says_as (ap (λ o. k (value_of o)) q) y)
 
 -- ---- get
 
-module _ (key : Bytes) (h : Health) {s script : Bytes} (out : Bytes) {t : Step} where
-  as_get : {p : Prog Bytes (Said GetAnswer)} {a : GetAnswer} {t1 : Step} {u : GetReply} {after made : Bytes} → u ≡ get_of a h t1 → after ≡ laid made out
-      → Says p s script t s a (state_of h t1) t1.calls made → Gets p s script t s u out after
-  as_get {p} {made = made} e ea x =
-      record { handed = made; says = subst (λ (u : GetReply). Says p s script t s u.answer u.state u.calls made) (sym e) x; output = ea }
+module _ (key out : Bytes) {s script : Bytes} {t : Step} {r : Fetched} (g : good s ≡ true) (x : Fetches key s script t r) where
+  abbrev then_hand : Health → Option Bytes → Prog Bytes (Said GetAnswer)
+  then_hand h o = opt o (say (Ok None) h) (hand flat (length out) h)
 
-  module _ {r : FetchAnswer} (g : good s ≡ true) (x : Fetches key s script t r) where
-    pub get_missed : {f : Fault} {t1 : Step} {w : Failure} {i : ItemAnswer} {u : GetReply} → r ≡ Missed f t1 → i ≡ unfetched_of r → w ≡ failure_of i
-        → u ≡ get_of (G.Refused w.fault) h w.step → Gets (get_key flat key (length out) h) s script t s u out out
-    unfolding get_key laid
-    get_missed e ei ew eu = as_get eu refl (says_missed G.Refused (λ o. opt o (say G.Absent h) (hand flat (length out) h)) g x e (ew ∙ ap failure_of ei))
+  pub get_missed : {e : Failure} → r ≡ Err e → Gets (get_key flat key (length out)) s script t s (Err e) out out
+  unfolding get_key laid
+  get_missed e = record { handed = []; tells = record { says = λ h. says_missed Err (then_hand h) g x e }; output = refl }
 
-    module _ {p : Spot} {t1 : Step} (e : r ≡ Got p t1) where
-      pub get_absent : {u : GetReply} → p ≡ Nothing → u ≡ get_of G.Absent h t1 → Gets (get_key flat key (length out) h) s script t s u out out
-      unfolding get_key laid opt
-      get_absent q eu = as_get eu refl (found_none (λ o. opt o (say G.Absent h) (hand flat (length out) h)) (λ e. say (G.Refused e) h) g x e q (says_ret g))
+  module _ {p : Option (Bor Bytes) × Step} (e : r ≡ Ok p) where
+    pub get_absent : p.0 ≡ None → Gets (get_key flat key (length out)) s script t s (Ok (None, p.1)) out out
+    unfolding get_key laid opt
+    get_absent q = record { handed = []; tells = record { says = λ h. found_none (then_hand h) (λ e. say (Err e) h) g x e q (says_ret g) }; output = refl }
 
-      module _ {at len : ℕ} (q : p ≡ At at len) where
-        value_length : length (take len (drop at s)) ≡ len
-        value_length = let i = fetch_inside x e q in length-take-le len (drop at s) (simp length-drop (omega arith))
+    module _ {v : Bor Bytes} (q : p.0 ≡ Some v) where
+      pub get_small : length out < length v.now → Gets (get_key flat key (length out)) s script t s (Err (failure (OutputTooSmall (length v.now)) p.1)) out out
+      unfolding get_key hand laid opt
+      get_small l =
+          record {
+            handed = [];
+            tells = record { says = λ h. found_some (then_hand h) (λ e. say (Err e) h) g x e q (says_as (pick_yes _ _ (lt-ltb _ _ l)) (says_ret g)) };
+            output = refl;
+          }
 
-        handed_by : {a : GetAnswer} {made after : Bytes} {u : GetReply} → u ≡ get_of a h t1 → after ≡ laid made out
-            → Says (hand flat (length out) h (take len (drop at s))) s script t1 s a (state_of h t1) t1.calls made → Gets (get_key flat key (length out) h) s script t s u out after
-        unfolding get_key opt
-        handed_by eu ea y = as_get eu ea (found_some (λ o. opt o (say G.Absent h) (hand flat (length out) h)) (λ e. say (G.Refused e) h) g x e q y)
-
-        pub get_small : {u : GetReply} → length out < len → u ≡ get_of (G.Refused (OutputTooSmall len)) h t1 → Gets (get_key flat key (length out) h) s script t s u out out
-        unfolding hand laid
-        get_small l eu =
-            let z : length out < length (take len (drop at s)) = omega (arith, value_length) in
-            handed_by eu refl
-            (subst (λ n. Says (hand flat (length out) h (take len (drop at s))) s script t1 s (G.Refused (OutputTooSmall n)) (state_of h t1) t1.calls []) value_length
-            (says_as (pick_yes _ _ (lt-ltb _ _ z)) (says_ret g)))
-
-        pub get_found : {after : Bytes} {u : GetReply} → len ≤ length out → after ≡ laid (take len (drop at s)) out → u ≡ get_of (G.Found len) h t1
-            → Gets (get_key flat key (length out) h) s script t s u out after
-        unfolding hand
-        get_found l ea eu =
-            let z : length (take len (drop at s)) ≤ length out = omega (arith, value_length) in
-            handed_by eu ea
-            (subst (λ n. Says (hand flat (length out) h (take len (drop at s))) s script t1 s (G.Found n) (state_of h t1) t1.calls (take len (drop at s))) value_length
-            (says_as (pick_no _ _ (le-ltb _ _ z)) (says_ret g)))
+      pub get_found : {after : Bytes} → length v.now ≤ length out → after ≡ written out 0 v.now
+          → Gets (get_key flat key (length out)) s script t s (Ok (Some (length v.now), p.1)) out after
+      unfolding get_key hand opt
+      get_found l ea =
+          record {
+            handed = v.now;
+            tells = record { says = λ h. found_some (then_hand h) (λ e. say (Err e) h) g x e q (says_as (pick_no _ _ (le-ltb _ _ l)) (says_ret g)) };
+            output = ea ∙ laid_front v.now out;
+          }
 
 -- ---- contains
 
-module _ (key : Bytes) (h : Health) {s script : Bytes} {t : Step} {r : FetchAnswer} (g : good s ≡ true) (x : Fetches key s script t r) where
-  pub contains_missed : {f : Fault} {t1 : Step} {w : Failure} {i : ItemAnswer} → r ≡ Missed f t1 → i ≡ unfetched_of r → w ≡ failure_of i
-      → Says (contains_key flat key h) s script t s (T.Refused w.fault) (state_of h w.step) w.step.calls []
+module _ (key : Bytes) {s script : Bytes} {t : Step} {r : Fetched} (g : good s ≡ true) (x : Fetches key s script t r) where
+  abbrev then_yes : Health → Option Bytes → Prog Bytes (Said TruthAnswer)
+  then_yes h o = opt o (say (Ok false) h) (λ v. say (Ok true) h)
+
+  pub contains_missed : {e : Failure} → r ≡ Err e → Tells (contains_key flat key) s script t s (Err e) []
   unfolding contains_key
-  contains_missed e ei ew = says_missed T.Refused (λ o. opt o (say T.No h) (λ v. say T.Yes h)) g x e (ew ∙ ap failure_of ei)
+  contains_missed e = record { says = λ h. says_missed Err (then_yes h) g x e }
 
-  module _ {p : Spot} {t1 : Step} (e : r ≡ Got p t1) where
-    pub contains_no : p ≡ Nothing → Says (contains_key flat key h) s script t s T.No (state_of h t1) t1.calls []
-    unfolding contains_key opt
-    contains_no q = found_none (λ o. opt o (say T.No h) (λ v. say T.Yes h)) (λ e. say (T.Refused e) h) g x e q (says_ret g)
-
-    pub contains_yes : {at len : ℕ} → p ≡ At at len → Says (contains_key flat key h) s script t s T.Yes (state_of h t1) t1.calls []
-    unfolding contains_key opt
-    contains_yes q = found_some (λ o. opt o (say T.No h) (λ v. say T.Yes h)) (λ e. say (T.Refused e) h) g x e q (says_ret g)
+  pub contains_told : {p : Option (Bor Bytes) × Step} → r ≡ Ok p → Tells (contains_key flat key) s script t s (Ok (is_some p.0, p.1)) []
+  unfolding contains_key opt
+  contains_told {p} e = go p.0 refl
+    where
+      go : (o : Option (Bor Bytes)) → p.0 ≡ o → Tells (contains_key flat key) s script t s (Ok (is_some p.0, p.1)) []
+      go None q = rw q (record { says = λ h. found_none (then_yes h) (λ e. say (Err e) h) g x e q (says_ret g) })
+      go (Some v) q = rw q (record { says = λ h. found_some (then_yes h) (λ e. say (Err e) h) g x e q (says_ret g) })
 
 -- ---- delete
 
-module _ (key : Bytes) (h : Health) {s script : Bytes} {t : Step} where
-  module _ {b : Bytes} {r : ItemAnswer} (x : Ran (remove flat key) s script t b r) where
-    pub delete_failed : {f : Fault} {t1 : Step} {w : Failure} → r ≡ I.Failed f t1 → w ≡ failure_of r
-        → Says (delete_found flat key h) s script t b (T.Refused w.fault) (state_of h w.step) w.step.calls []
-    unfolding delete_found
-    delete_failed e ew = says_failed T.Refused (λ x. say T.Yes h) x e ew
+module _ (key : Bytes) {s script : Bytes} {t : Step} {r : Fetched} (g : good s ≡ true) (x : Fetches key s script t r) where
+  abbrev then_drop : Health → Option Bytes → Prog Bytes (Said TruthAnswer)
+  then_drop h o = opt o (say (Ok false) h) (λ v. delete_found flat key h)
 
-    pub delete_done : {t1 : Step} → r ≡ I.Done t1 → Says (delete_found flat key h) s script t b T.Yes (state_of h t1) t1.calls []
-    unfolding delete_found
-    delete_done e = says_on (λ x. say T.Yes h) (λ e. say (T.Refused e) h) (ran_done x e) (says_ret x.fine)
+  pub delete_missed : {e : Failure} → r ≡ Err e → Tells (delete_key flat key) s script t s (Err e) []
+  unfolding delete_key
+  delete_missed e = record { says = λ h. says_missed Err (then_drop h) g x e }
 
-  module _ {r : FetchAnswer} (g : good s ≡ true) (x : Fetches key s script t r) where
-    pub delete_missed : {f : Fault} {t1 : Step} {w : Failure} {i : ItemAnswer} → r ≡ Missed f t1 → i ≡ unfetched_of r → w ≡ failure_of i
-        → Says (delete_key flat key h) s script t s (T.Refused w.fault) (state_of h w.step) w.step.calls []
-    unfolding delete_key
-    delete_missed e ei ew = says_missed T.Refused (λ o. opt o (say T.No h) (λ v. delete_found flat key h)) g x e (ew ∙ ap failure_of ei)
+  module _ {p : Option (Bor Bytes) × Step} (e : r ≡ Ok p) {y : Bool} (ey : is_some p.0 ≡ not y) where
+    there : y ≡ false → (v : Bor Bytes) × (p.0 ≡ Some v)
+    there f = go p.0 refl
+      where
+        go : (o : Option (Bor Bytes)) → p.0 ≡ o → (v : Bor Bytes) × (p.0 ≡ Some v)
+        go None q = absurd (true≢false (sym (ap is_some q) ∙ ey ∙ ap not f) refl)
+        go (Some v) q = (v, q)
 
-    module _ {p : Spot} {t1 : Step} (e : r ≡ Got p t1) where
-      pub delete_no : p ≡ Nothing → Says (delete_key flat key h) s script t s T.No (state_of h t1) t1.calls []
-      unfolding delete_key opt
-      delete_no q = found_none (λ o. opt o (say T.No h) (λ v. delete_found flat key h)) (λ e. say (T.Refused e) h) g x e q (says_ret g)
+    absent : y ≡ true → p.0 ≡ None
+    absent f = go p.0 refl
+      where
+        go : (o : Option (Bor Bytes)) → p.0 ≡ o → p.0 ≡ None
+        go None q = q
+        go (Some v) q = absurd (true≢false refl (sym (ap is_some q) ∙ ey ∙ ap not f))
 
-      pub delete_on : {at len : ℕ} {b : Bytes} {a : TruthAnswer} {st : State} {n : ℕ} {out : Bytes} → p ≡ At at len → Says (delete_found flat key h) s script t1 b a st n out
-          → Says (delete_key flat key h) s script t b a st n out
-      unfolding delete_key opt
-      delete_on q y = found_some (λ o. opt o (say T.No h) (λ v. delete_found flat key h)) (λ e. say (T.Refused e) h) g x e q y
+    pub delete_no : y ≡ true → Tells (delete_key flat key) s script t s (Ok (false, p.1)) []
+    unfolding delete_key opt
+    delete_no f = record { says = λ h. found_none (then_drop h) (λ e. say (Err e) h) g x e (absent f) (says_ret g) }
+
+    module _ (f : y ≡ false) {b : Bytes} {a : Answered} (w : Ran (remove flat key) s script p.1 b a) where
+      pub delete_failed : {w2 : Failure} → a ≡ Err w2 → Tells (delete_key flat key) s script t b (Err w2) []
+      unfolding delete_key delete_found opt
+      delete_failed q =
+          record {
+            says = λ h. found_some (then_drop h) (λ e. say (Err e) h) g x e (there f).1 (says_failed Err (λ x. say (Ok true) h) w q);
+          }
+
+      pub delete_done : {u : Step} → a ≡ Ok u → Tells (delete_key flat key) s script t b (Ok (true, u)) []
+      unfolding delete_key delete_found opt
+      delete_done q =
+          record {
+            says = λ h. found_some (then_drop h) (λ e. say (Err e) h) g x e (there f).1
+                (says_on (λ x. say (Ok true) h) (λ e. say (Err e) h) (ran_done w q) (says_ret w.fine));
+          }

@@ -1,119 +1,71 @@
 // One key looked up, and handed out or removed, in a store that is ready: document 01, "Calls". The public calls are
-// `store::get`, `store::contains` and `store::delete`.
+// `store::get`, `store::contains` and `store::delete`; none of the three changes the health.
 #![tactic(auto)]
 
 ghost use Rattle.std.specs.Prelude.{◌≡◌, true, [], length};
 ghost use Rattle.definition.specs.Region.{good};
 ghost use Rattle.definition.specs.Program.{flat};
-ghost use Rattle.definition.specs.Calls.{get_key, contains_key, delete_key, delete_found};
-ghost use Rattle.gate.specs.Forms.{Says};
-ghost use Rattle.finding.specs.Forms.{get_of, Gets};
+ghost use Rattle.definition.specs.Calls.{get_key, contains_key, delete_key};
+ghost use Rattle.gate.specs.Forms.{Tells};
+ghost use Rattle.finding.specs.Forms.{Gets};
 
-use definition::{Fault, GetAnswer, GetReply, Health, Step, TruthAnswer, TruthReply};
-use items::{Failure, FetchAnswer, ItemAnswer};
-use region::Spot;
+use definition::{Fault, Step};
+use items::Failure;
 
-pub fn get_reply(answer: GetAnswer, health: Health, step: Step) -> GetReply
-    ensures { result ≡ get_of answer health step }
-{
-    let state = gate::state_of(health, step);
-    GetReply {
-        answer: answer,
-        state: state,
-        calls: step.calls,
-    }
-}
-
-pub fn get_refused(failed: Failure, health: Health) -> GetReply
-    ensures { result ≡ get_of (GetAnswer.Refused failed.fault) health failed.step }
-{
-    let fault = failed.fault;
-    let step = failed.step;
-    get_reply(GetAnswer::Refused(fault), health, step)
-}
-
+// Hands out the value under a key, and says its length.
 pub fn get_key(
     region: &[u8],
     script: &[u8],
     key: &[u8],
-    health: Health,
     step: Step,
     out: &mut [u8],
-) -> GetReply
+) -> Result<(Option<usize>, Step), Failure>
     requires { good region.now ≡ true }
-    ensures { Gets (get_key flat key.now (length out.old) health) region.now
+    ensures { Gets (get_key flat key.now (length out.old)) region.now
         script.now step region.now result out.old out.new }
 {
-    let fetched = items::fetch(region, script, key, step);
-    let FetchAnswer::Got(spot, next) = fetched else {
-        return get_refused(items::why(items::unfetched(fetched)), health);
+    let (fetched, next) = items::fetch(region, script, key, step)?;
+    let Some(value) = fetched else {
+        return Ok((None, next));
     };
-    let Spot::At(at, len) = spot else {
-        return get_reply(GetAnswer::Absent, health, next);
-    };
-    if out.len() < len {
-        return get_reply(GetAnswer::Refused(Fault::OutputTooSmall(len)), health, next);
+    if out.len() < value.len() {
+        let fault = Fault::OutputTooSmall(value.len());
+        return Err(Failure { fault, step: next });
     }
-    slices::copy_out(region, at, len, out);
-    get_reply(GetAnswer::Found(len), health, next)
+    slices::copy_in(out, 0, value);
+    Ok((Some(value.len()), next))
 }
 
+// Whether a key has a value.
 pub fn contains_key(
     region: &[u8],
     script: &[u8],
     key: &[u8],
-    health: Health,
     step: Step,
-) -> TruthReply
+) -> Result<(bool, Step), Failure>
     requires { good region.now ≡ true }
-    ensures { Says (contains_key flat key.now health) region.now script.now
-        step region.now result.answer result.state result.calls [] }
+    ensures { Tells (contains_key flat key.now) region.now script.now step
+        region.now result [] }
 {
-    let fetched = items::fetch(region, script, key, step);
-    let FetchAnswer::Got(spot, next) = fetched else {
-        return gate::truth_refused(items::why(items::unfetched(fetched)), health);
-    };
-    let Spot::At(_, _) = spot else {
-        return gate::truth(TruthAnswer::No, health, next);
-    };
-    gate::truth(TruthAnswer::Yes, health, next)
+    let (fetched, next) = items::fetch(region, script, key, step)?;
+    Ok((fetched.is_some(), next))
 }
 
-fn delete_found(
-    region: &mut [u8],
-    script: &[u8],
-    key: &[u8],
-    health: Health,
-    step: Step,
-) -> TruthReply
-    requires { good region.old ≡ true }
-    ensures { Says (delete_found flat key.now health) region.old script.now
-        step region.new result.answer result.state result.calls [] }
-{
-    let removed = items::remove(region, script, key, step);
-    let ItemAnswer::Done(gone) = removed else {
-        return gate::truth_refused(items::why(removed), health);
-    };
-    gate::truth(TruthAnswer::Yes, health, gone)
-}
-
+// Removes the value under a key, and says whether there was one.
 pub fn delete_key(
     region: &mut [u8],
     script: &[u8],
     key: &[u8],
-    health: Health,
     step: Step,
-) -> TruthReply
+) -> Result<(bool, Step), Failure>
     requires { good region.old ≡ true }
-    ensures { Says (delete_key flat key.now health) region.old script.now step
-        region.new result.answer result.state result.calls [] }
+    ensures { Tells (delete_key flat key.now) region.old script.now step
+        region.new result [] }
 {
-    let fetched = items::fetch(region, script, key, step);
-    let FetchAnswer::Got(spot, next) = fetched else {
-        return gate::truth_refused(items::why(items::unfetched(fetched)), health);
-    };
-    let Spot::At(_, _) = spot else {
-        return gate::truth(TruthAnswer::No, health, next);
-    };
-    delete_found(region, script, key, health, next)
+    let (fetched, next) = items::fetch(region, script, key, step)?;
+    if fetched.is_none() {
+        return Ok((false, next));
+    }
+    let gone = items::remove(region, script, key, None, next)?;
+    Ok((true, gone))
 }

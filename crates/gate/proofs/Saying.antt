@@ -1,7 +1,7 @@
 -- How a call's proof goes from its image test through its recovery and its item calls to what it says.
 use mathlib.Core.Path.{◌≡◌, refl, sym, ap, ◌∙◌, subst}
 use mathlib.Core.Bool.{Bool, true, false}
-use mathlib.Core.Option.{Option}
+use Rattle.std.specs.Prelude.{Option, Ok, Err}
 use mathlib.Core.List.{[]}
 use Prim.Native.Nat.{ℕ}
 use Rattle.definition.specs.Tools.{Bytes}
@@ -19,35 +19,25 @@ use Rattle.definition.specs.declared.Fault.{Fault}
 use Rattle.definition.specs.declared.Fault.TheVariants.{Corrupted}
 use Rattle.definition.specs.declared.Health.{Health}
 use Rattle.definition.specs.declared.Health.TheVariants.{Clean}
-use Rattle.definition.specs.declared.Answer.{Answer}
+use Rattle.std.specs.Prelude as P
 use Rattle.definition.specs.declared.Reply.{Reply}
-use Rattle.definition.specs.declared.TruthAnswer.{TruthAnswer}
-use Rattle.definition.specs.declared.TruthReply.{TruthReply}
 use Rattle.items.specs.declared.Failure.{Failure}
-use Rattle.items.specs.declared.FetchAnswer.{FetchAnswer}
-use Rattle.items.specs.declared.FetchAnswer.TheVariants.{Missed}
-use Rattle.items.specs.declared.ItemAnswer.{ItemAnswer}
-use Rattle.items.specs.declared.ItemAnswer.TheVariants as I
-use Rattle.items.specs.Forms.{Runs, Ran, Fetches, failure_of, unfetched_of}
+use Rattle.items.specs.Forms.{Answered, Fetched, Runs, Ran, Fetches}
 use Rattle.items.proofs.Along.{ran_done, ran_failed, fetch_failed}
-use Rattle.gate.specs.declared.Converged.{Converged}
-use Rattle.gate.specs.declared.Converged.TheVariants.{Ready, Failed}
-use Rattle.gate.specs.Forms.{ConvergedBy, Gate, unconverged_of, unready_of, state_of, reply_of, truth_of, Says}
+use Rattle.gate.specs.Forms.{Told, ConvergedBy, Gate, state_of, unchanged_of, reply_of, answer_in, step_in, Says, Tells}
 
 -- ---- the recovery
 
 module _ {h : Health} {s script : Bytes} {t : Step} {needed : Bool} where
-  pub gate_idle : needed ≡ false → good s ≡ true → Gate needed h s script t s (Ready h t)
-  gate_idle e g = subst (λ n. Gate n h s script t s (Ready h t)) (sym e) (record { fine = g; is = (refl, refl, refl) })
+  pub gate_idle : needed ≡ false → good s ≡ true → Gate needed h s script t s (Ok (h, t))
+  gate_idle e g = subst (λ n. Gate n h s script t s (Ok (h, t))) (sym e) (record { fine = g; is = (refl, refl, refl) })
 
-  module _ (e : needed ≡ true) {b : Bytes} {r : ItemAnswer} (x : Ran (recover flat) s script t b r) where
-    pub gate_done : {t1 : Step} → r ≡ I.Done t1 → Gate needed h s script t b (Ready Clean t1)
-    gate_done {t1} q = subst (λ n. Gate n h s script t b (Ready Clean t1)) (sym e) (record { fine = x.fine; is = (refl, ran_done x q) })
+  module _ (e : needed ≡ true) {b : Bytes} {r : Answered} (x : Ran (recover flat) s script t b r) where
+    pub gate_done : {u : Step} → r ≡ Ok u → Gate needed h s script t b (Ok (Clean, u))
+    gate_done {u} q = subst (λ n. Gate n h s script t b (Ok (Clean, u))) (sym e) (record { fine = x.fine; is = (refl, ran_done x q) })
 
-    pub gate_failed : {f : Fault} {t1 : Step} {u : Converged} → r ≡ I.Failed f t1 → u ≡ unconverged_of r → Gate needed h s script t b u
-    gate_failed {f} {t1} {u} q eu =
-        let z : Failed f t1 ≡ u = sym (eu ∙ ap unconverged_of q) in
-        subst (λ u. Gate needed h s script t b u) z (subst (λ n. Gate n h s script t b (Failed f t1)) (sym e) (record { fine = x.fine; is = ran_failed x q }))
+    pub gate_failed : {f : Failure} → r ≡ Err f → Gate needed h s script t b (Err f)
+    gate_failed {f} q = subst (λ n. Gate n h s script t b (Err f)) (sym e) (record { fine = x.fine; is = ran_failed x q })
 
 -- ---- what a program says
 
@@ -70,7 +60,7 @@ module _ {A : Type 0} {s script : Bytes} {t : Step} where
 -- ---- through the recovery
 
 module _ {A : Type 0} (refuse : Fault → A) (k : Health → Prog Bytes (Said A)) (h : Health) (s script : Bytes) (t : Step) (b : Bytes) where
-  ready : (needed : Bool) {h1 : Health} {t1 : Step} {b2 : Bytes} {a : A} {st : State} {n : ℕ} {out : Bytes} → ConvergedBy needed h s script t b (Ready h1 t1)
+  ready : (needed : Bool) {h1 : Health} {t1 : Step} {b2 : Bytes} {a : A} {st : State} {n : ℕ} {out : Bytes} → ConvergedBy needed h s script t b (Ok (h1, t1))
       → Says (k h1) b script t1 b2 a st n out → Says (gate flat refuse needed h k) s script t b2 a st n out
   unfolding gate
   ready false {t1 = t1} z y =
@@ -81,60 +71,47 @@ module _ {A : Type 0} (refuse : Fault → A) (k : Health → Prog Bytes (Said A)
   ready true {t1 = t1} {b2 = b2} {a = a} {st = st} {n = n} {out = out} z y =
       says_on (λ x. k Clean) (λ e. say (refuse e) h) z.1 (subst (λ x. Says (k x) b script t1 b2 a st n out) z.0 y)
 
-  unready : (needed : Bool) {f : Fault} {t1 : Step} → good b ≡ true → ConvergedBy needed h s script t b (Failed f t1)
-      → Says (gate flat refuse needed h k) s script t b (refuse f) (state_of h t1) t1.calls []
+  unready : (needed : Bool) {f : Failure} → good b ≡ true → ConvergedBy needed h s script t b (Err f)
+      → Says (gate flat refuse needed h k) s script t b (refuse f.fault) (state_of h f.step) f.step.calls []
   unfolding gate
   unready false g z = absurd z
   unready true g z = says_else (λ x. k Clean) (λ e. say (refuse e) h) z (says_ret g)
 
-module _ {A : Type 0} (refuse : Fault → A) (k : Health → Prog Bytes (Said A)) {h : Health} {s script : Bytes} {t : Step} {b : Bytes} {needed : Bool} {r : Converged}
+module _ {A : Type 0} (refuse : Fault → A) (k : Health → Prog Bytes (Said A)) {h : Health} {s script : Bytes} {t : Step} {b : Bytes} {needed : Bool} {r : Told Health}
     (x : Gate needed h s script t b r) where
-  pub says_ready : {h1 : Health} {t1 : Step} {b2 : Bytes} {a : A} {st : State} {n : ℕ} {out : Bytes} → r ≡ Ready h1 t1
+  pub says_ready : {h1 : Health} {t1 : Step} {b2 : Bytes} {a : A} {st : State} {n : ℕ} {out : Bytes} → r ≡ Ok (h1, t1)
       → Says (k h1) b script t1 b2 a st n out → Says (gate flat refuse needed h k) s script t b2 a st n out
   says_ready e y = ready refuse k h s script t b needed (subst (ConvergedBy needed h s script t b) e x.is) y
 
-  pub says_unready : {f : Fault} {t1 : Step} → r ≡ Failed f t1 → Says (gate flat refuse needed h k) s script t b (refuse f) (state_of h t1) t1.calls []
+  pub says_unready : {f : Failure} → r ≡ Err f → Says (gate flat refuse needed h k) s script t b (refuse f.fault) (state_of h f.step) f.step.calls []
   says_unready e = unready refuse k h s script t b needed x.fine (subst (ConvergedBy needed h s script t b) e x.is)
 
--- ---- failures, as the code reads them off an answer
+-- ---- failures, as a refusal
 
-module _ {A : Type 0} (refuse : Fault → A) {s script : Bytes} {t : Step} {hl : Health} {w : Failure} where
+module _ {A : Type 0} (refuse : Fault → A) {s script : Bytes} {t : Step} {hl : Health} {f : Failure} where
   -- an item program failed, and its fault is the call's
-  pub says_failed : {p : Prog Bytes (Unit {0})} {b : Bytes} {r : ItemAnswer} (k : Unit {0} → Prog Bytes (Said A)) {f : Fault} {t1 : Step}
-      → Ran p s script t b r → r ≡ I.Failed f t1 → w ≡ failure_of r
-      → Says (on_p p k (λ e. say (refuse e) hl)) s script t b (refuse w.fault) (state_of hl w.step) w.step.calls []
-  says_failed {p} {b} {r} k {f} {t1} x e ew =
-      let z : record { fault = f; step = t1 } ≡ w = sym (ew ∙ ap failure_of e) in
-      subst (λ (w : Failure). Says (on_p p k (λ e. say (refuse e) hl)) s script t b (refuse w.fault) (state_of hl w.step) w.step.calls []) z
-      (says_else k (λ e. say (refuse e) hl) (ran_failed x e) (says_ret x.fine))
+  pub says_failed : {p : Prog Bytes (Unit {0})} {b : Bytes} {r : Answered} (k : Unit {0} → Prog Bytes (Said A))
+      → Ran p s script t b r → r ≡ Err f
+      → Says (on_p p k (λ e. say (refuse e) hl)) s script t b (refuse f.fault) (state_of hl f.step) f.step.calls []
+  says_failed k x e = says_else k (λ e. say (refuse e) hl) (ran_failed x e) (says_ret x.fine)
 
   -- the same of a fetch
-  pub says_missed : {key : Bytes} {r : FetchAnswer} (k : Option Bytes → Prog Bytes (Said A)) {f : Fault} {t1 : Step}
-      → good s ≡ true → Fetches key s script t r → r ≡ Missed f t1 → w ≡ failure_of (unfetched_of r)
-      → Says (on_p (fetch flat key) k (λ e. say (refuse e) hl)) s script t s (refuse w.fault) (state_of hl w.step) w.step.calls []
-  says_missed {key} {r} k {f} {t1} g x e ew =
-      let z : record { fault = f; step = t1 } ≡ w = sym (ew ∙ ap (λ r. failure_of (unfetched_of r)) e) in
-      subst (λ (w : Failure). Says (on_p (fetch flat key) k (λ e. say (refuse e) hl)) s script t s (refuse w.fault) (state_of hl w.step) w.step.calls []) z
-      (says_else k (λ e. say (refuse e) hl) (fetch_failed g x e) (says_ret g))
+  pub says_missed : {key : Bytes} {r : Fetched} (k : Option Bytes → Prog Bytes (Said A))
+      → good s ≡ true → Fetches key s script t r → r ≡ Err f
+      → Says (on_p (fetch flat key) k (λ e. say (refuse e) hl)) s script t s (refuse f.fault) (state_of hl f.step) f.step.calls []
+  says_missed k g x e = says_else k (λ e. say (refuse e) hl) (fetch_failed g x e) (says_ret g)
 
-  -- and of the recovery
-  pub says_not_ready : (k : Health → Prog Bytes (Said A)) {needed : Bool} {b : Bytes} {r : Converged} {f : Fault} {t1 : Step}
-      → Gate needed hl s script t b r → r ≡ Failed f t1 → w ≡ unready_of r
-      → Says (gate flat refuse needed hl k) s script t b (refuse w.fault) (state_of hl w.step) w.step.calls []
-  says_not_ready k {needed} {b} {r} {f} {t1} x e ew =
-      let z : record { fault = f; step = t1 } ≡ w = sym (ew ∙ ap unready_of e) in
-      subst (λ (w : Failure). Says (gate flat refuse needed hl k) s script t b (refuse w.fault) (state_of hl w.step) w.step.calls []) z (says_unready refuse k x e)
+-- ---- the struct that carries an answer
 
--- ---- the structs that carry an answer
-
-module _ {s script b out : Bytes} {t t1 : Step} {h : Health} where
-  pub as_reply : {p : Prog Bytes (Said Answer)} {a : Answer} {u : Reply} → u ≡ reply_of a h t1 → Says p s script t b a (state_of h t1) t1.calls out
+module _ {s script b out : Bytes} {t t1 : Step} {h : Health} {A : Type 0} {p : Prog Bytes (Said A)} where
+  pub as_reply : {a : A} {u : Reply A} → u ≡ reply_of a h t1 → Says p s script t b a (state_of h t1) t1.calls out
       → Says p s script t b u.answer u.state u.calls out
-  as_reply {p} e x = subst (λ (u : Reply). Says p s script t b u.answer u.state u.calls out) (sym e) x
+  as_reply e x = subst (λ (u : Reply A). Says p s script t b u.answer u.state u.calls out) (sym e) x
 
-  pub as_truth : {p : Prog Bytes (Said TruthAnswer)} {a : TruthAnswer} {u : TruthReply} → u ≡ truth_of a h t1 → Says p s script t b a (state_of h t1) t1.calls out
-      → Says p s script t b u.answer u.state u.calls out
-  as_truth {p} e x = subst (λ (u : TruthReply). Says p s script t b u.answer u.state u.calls out) (sym e) x
+-- a call that keeps the health, as the one that was there
+pub as_told : {A : Type 0} {p : Health → Prog Bytes (Said (P.Result A Fault))} {s script b out : Bytes} {t : Step} (h : Health) {r : Told A} {u : Reply (P.Result A Fault)}
+    → u ≡ reply_of (answer_in r) h (step_in r) → Tells p s script t b r out → Says (p h) s script t b u.answer u.state u.calls out
+as_told h e x = as_reply e (x.says h)
 
 -- ---- the public call
 
@@ -152,24 +129,22 @@ module _ {A : Type 0} (refuse : Fault → A) (p : Prog Bytes (Said A)) (region s
 -- ---- a public call that recovers first only if Pending
 
 module _ {A : Type 0} (refuse : Fault → A) (k : Health → Prog Bytes (Said A)) {region script : Bytes} (st : State) (out : Bytes)
-    {g : Bool} (eg : g ≡ good region) (e : g ≡ true) {n : Bool} (en : n ≡ is_pending st.health) {t : Step} (et : t ≡ begin st)
-    {b : Bytes} {c : Converged} (x : Gate n st.health region script t b c) where
-  gated : Gate (is_pending st.health) st.health region script (begin st) b c
-  gated = subst (λ n. Gate n st.health region script (begin st) b c) en (subst (λ t. Gate n st.health region script t b c) et x)
-
-  pub public_ready : {h1 : Health} {t1 : Step} {b2 : Bytes} {a : A} {st1 : State} {m : ℕ} {made : Bytes} → c ≡ Ready h1 t1 → Says (k h1) b script t1 b2 a st1 m made
+    {g : Bool} (eg : g ≡ good region) (e : g ≡ true)
+    {b : Bytes} {c : Told Health} (x : Gate (is_pending st.health) st.health region script (begin st) b c) where
+  pub public_ready : {h1 : Health} {t1 : Step} {b2 : Bytes} {a : A} {st1 : State} {m : ℕ} {made : Bytes} → c ≡ Ok (h1, t1) → Says (k h1) b script t1 b2 a st1 m made
       → outcome a st1 m b2 (laid made out) ≡ public refuse (gate flat refuse (is_pending st.health) st.health k) region script st out
-  public_ready q y = public_good refuse _ region script st out eg e (says_ready refuse k gated q y)
+  public_ready q y = public_good refuse _ region script st out eg e (says_ready refuse k x q y)
 
-  pub public_unready : {f : Fault} {t1 : Step} {w : Failure} → c ≡ Failed f t1 → w ≡ unready_of c
+  pub public_unready : {w : Failure} → c ≡ Err w
       → outcome (refuse w.fault) (state_of st.health w.step) w.step.calls b (laid [] out) ≡ public refuse (gate flat refuse (is_pending st.health) st.health k) region script st out
-  public_unready q ew = public_good refuse _ region script st out eg e (says_not_ready refuse k gated q ew)
+  public_unready q = public_good refuse _ region script st out eg e (says_unready refuse k x q)
 
 -- ---- what a reply makes of an outcome
 
-module _ {h : Health} {t : Step} {b out : Bytes} where
-  pub reply_outcome : {a : Answer} {u : Reply} → u ≡ reply_of a h t → outcome u.answer u.state u.calls b out ≡ outcome a (state_of h t) t.calls b out
-  reply_outcome e = ap (λ (u : Reply). outcome u.answer u.state u.calls b out) e
+pub unchanged_outcome : {A : Type 0} {st : State} {b out : Bytes} {a : A} {u : Reply A} → u ≡ unchanged_of a st
+    → outcome u.answer u.state u.calls b out ≡ outcome a st 0 b out
+unchanged_outcome {A} {b = b} {out = out} e = ap (λ (u : Reply A). outcome u.answer u.state u.calls b out) e
 
-  pub truth_outcome : {a : TruthAnswer} {u : TruthReply} → u ≡ truth_of a h t → outcome u.answer u.state u.calls b out ≡ outcome a (state_of h t) t.calls b out
-  truth_outcome e = ap (λ (u : TruthReply). outcome u.answer u.state u.calls b out) e
+pub reply_outcome : {A : Type 0} {h : Health} {t : Step} {b out : Bytes} {a : A} {u : Reply A} → u ≡ reply_of a h t
+    → outcome u.answer u.state u.calls b out ≡ outcome a (state_of h t) t.calls b out
+reply_outcome {A} {b = b} {out = out} e = ap (λ (u : Reply A). outcome u.answer u.state u.calls b out) e

@@ -2,21 +2,14 @@
 // Document 01 has it in "Recovery and health" and in "Numbers a caller can hear".
 #![tactic(auto)]
 
-ghost use Rattle.std.specs.Prelude.{◌≡◌, true, not};
+ghost use Rattle.std.specs.Prelude.{◌≡◌, true, not, Err};
 ghost use Rattle.definition.specs.Calls;
 ghost use Rattle.definition.specs.Region.{good};
 ghost use Rattle.definition.specs.Public;
-ghost use Rattle.gate.specs.Forms.{Gate, unconverged_of, unready_of, state_of, reply_of, truth_of};
+ghost use Rattle.gate.specs.Forms.{Gate, state_of, unchanged_of, reply_of, answer_in, step_in};
 
-use definition::{Answer, Fault, Health, Reply, State, Step, TruthAnswer, TruthReply};
-use items::{Failure, ItemAnswer};
-
-// A store that is ready, with its health, or a recovery that failed.
-#[derive(Clone, Copy)]
-pub enum Converged {
-    Ready(Health, Step),
-    Failed(Fault, Step),
-}
+use definition::{Fault, Health, Reply, State, Step};
+use items::Failure;
 
 // Every other call that reads recovers only where a commit may stand.
 pub fn is_pending(health: Health) -> bool
@@ -44,22 +37,11 @@ pub fn is_unclean(health: Health) -> bool
 pub fn begin(state: State) -> Step
     ensures { result ≡ Public.begin state }
 {
-    let space = state.space;
     Step {
         at: state.at,
         cut: state.cut,
         calls: 0,
-        space: space,
-    }
-}
-
-// A failed recovery as what it makes of a call.
-fn unconverged(answer: ItemAnswer) -> Converged
-    ensures { result ≡ unconverged_of answer }
-{
-    match answer {
-        ItemAnswer::Failed(fault, step) => Converged::Failed(fault, step),
-        ItemAnswer::Done(step) => Converged::Ready(Health::Clean, step),
+        space: state.space,
     }
 }
 
@@ -70,81 +52,70 @@ pub fn converge(
     needed: bool,
     health: Health,
     step: Step,
-) -> Converged
+) -> Result<(Health, Step), Failure>
     requires { good region.old ≡ true }
     ensures { Gate needed health region.old script.now step region.new result }
 {
     if !needed {
-        return Converged::Ready(health, step);
+        return Ok((health, step));
     }
-    let recovered = recovery::recover(region, script, step);
-    let ItemAnswer::Done(next) = recovered else {
-        return unconverged(recovered);
-    };
-    Converged::Ready(Health::Clean, next)
+    let next = recovery::recover(region, script, step)?;
+    Ok((Health::Clean, next))
 }
 
-// Why a store is not ready, and where its call then stands.
-pub fn why(converged: Converged) -> Failure
-    ensures { result ≡ unready_of converged }
+// The recovery of a call that recovers first only if a commit may stand, and where the call then is.
+pub fn ready(region: &mut [u8], script: &[u8], state: State) -> Result<(Health, Step), Failure>
+    requires { good region.old ≡ true }
+    ensures { Gate (Calls.is_pending state.health) state.health region.old
+        script.now (Public.begin state) region.new result }
 {
-    match converged {
-        Converged::Failed(fault, step) => Failure { fault, step },
-        Converged::Ready(_, step) => Failure {
-            fault: Fault::EngineBug,
-            step: step,
-        },
-    }
+    let health = state.health;
+    converge(region, script, is_pending(health), health, begin(state))
 }
 
 // The state to keep after a call.
 pub fn state_of(health: Health, step: Step) -> State
     ensures { result ≡ state_of health step }
 {
-    let space = step.space;
     State {
-        health: health,
+        health,
         at: step.at,
         cut: step.cut,
-        space: space,
+        space: step.space,
     }
 }
 
-pub fn reply(answer: Answer, health: Health, step: Step) -> Reply
+// The reply of a call that did nothing: on a bad image, or for its arguments.
+pub fn unchanged<A>(answer: A, state: State) -> Reply<A>
+    ensures { result ≡ unchanged_of answer state }
+{
+    reply(answer, state.health, begin(state))
+}
+
+// What a call hands back: its answer, the state to keep, and its item calls.
+pub fn reply<A>(answer: A, health: Health, step: Step) -> Reply<A>
     ensures { result ≡ reply_of answer health step }
 {
-    let state = state_of(health, step);
     Reply {
-        answer: answer,
-        state: state,
+        answer,
+        state: state_of(health, step),
         calls: step.calls,
     }
 }
 
 // The reply to a failure, with the health as given.
-pub fn refused(failed: Failure, health: Health) -> Reply
-    ensures { result ≡ reply_of (Answer.Refused failed.fault) health failed.step }
+pub fn refused<A>(failed: Failure, health: Health) -> Reply<Result<A, Fault>>
+    ensures { result ≡ reply_of (Err failed.fault) health failed.step }
 {
-    let fault = failed.fault;
-    let step = failed.step;
-    reply(Answer::Refused(fault), health, step)
+    reply(Err(failed.fault), health, failed.step)
 }
 
-pub fn truth(answer: TruthAnswer, health: Health, step: Step) -> TruthReply
-    ensures { result ≡ truth_of answer health step }
+// The reply of a call that keeps the health.
+pub fn told<A>(comes_to: Result<(A, Step), Failure>, health: Health) -> Reply<Result<A, Fault>>
+    ensures { result ≡ reply_of (answer_in comes_to) health (step_in comes_to) }
 {
-    let state = state_of(health, step);
-    TruthReply {
-        answer: answer,
-        state: state,
-        calls: step.calls,
+    match comes_to {
+        Ok((answer, step)) => reply(Ok(answer), health, step),
+        Err(failed) => refused(failed, health),
     }
-}
-
-pub fn truth_refused(failed: Failure, health: Health) -> TruthReply
-    ensures { result ≡ truth_of (TruthAnswer.Refused failed.fault) health failed.step }
-{
-    let fault = failed.fault;
-    let step = failed.step;
-    truth(TruthAnswer::Refused(fault), health, step)
 }

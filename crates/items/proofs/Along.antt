@@ -2,47 +2,40 @@
 -- failure.
 use mathlib.Core.Path.{◌≡◌, refl, sym, ap, ◌∙◌, subst}
 use mathlib.Core.Bool.{true}
-use mathlib.Core.Option.{Option}
+use Rattle.std.specs.Prelude.{Option, Some, Ok, Err, IfSome, IfOk, ◌≤◌, length}
 use Prim.Native.Nat.{ℕ}
+use Rattle.std.specs.Borrow.{Bor}
 use Rattle.definition.specs.Tools.{Bytes}
 use Rattle.definition.specs.Region.{good}
 use Rattle.definition.specs.Program.{Prog, ret, err, see, on_p, ◌▷◌, World, world, Result, ok, bad, exec, flat, fetch, step}
 use Rattle.definition.proofs.Running.{exec_ok, exec_bad}
 use Rattle.definition.specs.declared.Step.{Step}
 use Rattle.definition.specs.declared.Fault.{Fault}
-use Rattle.region.specs.Places.{spotted, Inside}
-use Rattle.region.specs.declared.Spot.{Spot}
-use Rattle.region.specs.declared.Spot.TheVariants.{At}
-use Rattle.region.specs.declared.Next.{Next}
-use Rattle.items.specs.declared.ItemAnswer.{ItemAnswer}
-use Rattle.items.specs.declared.ItemAnswer.TheVariants.{Done, Failed}
-use Rattle.items.specs.declared.FetchAnswer.{FetchAnswer}
-use Rattle.items.specs.declared.FetchAnswer.TheVariants.{Got, Missed}
-use Rattle.items.specs.declared.NextAnswer.{NextAnswer}
-use Rattle.items.specs.declared.NextAnswer.TheVariants.{Met, Unmet}
-use Rattle.items.specs.Forms.{Runs, Ran, item_run, Fetches, fetch_run, GotInside, Visits, next_run, unfetched_of}
+use Rattle.region.specs.declared.Place.{Place}
+use Rattle.items.specs.declared.Failure.{Failure}
+use Rattle.items.specs.Forms.{Answered, Fetched, Met, Runs, Ran, item_run, value_of, Fetches, fetch_run, Visits, next_run}
 
 -- ---- one run, by the answer's case
 
-module _ {p : Prog Bytes (Unit {0})} {s script b : Bytes} {t : Step} {r : ItemAnswer} (h : Ran p s script t b r) where
-  pub ran_done : {t1 : Step} → r ≡ Done t1 → Runs p s script t b (ok tt (world b script t1))
+module _ {p : Prog Bytes (Unit {0})} {s script b : Bytes} {t : Step} {r : Answered} (h : Ran p s script t b r) where
+  pub ran_done : {u : Step} → r ≡ Ok u → Runs p s script t b (ok tt (world b script u))
   ran_done e = record { fine = h.fine; is = sym (ap (item_run b script) e) ∙ h.is }
 
-  pub ran_failed : {f : Fault} {t1 : Step} → r ≡ Failed f t1 → Runs p s script t b (bad f (world b script t1))
+  pub ran_failed : {e : Failure} → r ≡ Err e → Runs p s script t b (bad e.fault (world b script e.step))
   ran_failed e = record { fine = h.fine; is = sym (ap (item_run b script) e) ∙ h.is }
 
-module _ {k s script : Bytes} {t : Step} {r : FetchAnswer} (g : good s ≡ true) (h : Fetches k s script t r) where
-  pub fetch_done : {x : Spot} {t1 : Step} → r ≡ Got x t1 → Runs (fetch flat k) s script t s (ok (spotted s x) (world s script t1))
+module _ {k s script : Bytes} {t : Step} {r : Fetched} (g : good s ≡ true) (h : Fetches k s script t r) where
+  pub fetch_done : {x : Option (Bor Bytes) × Step} → r ≡ Ok x → Runs (fetch flat k) s script t s (ok (value_of x.0) (world s script x.1))
   fetch_done e = record { fine = g; is = sym (ap (fetch_run s script) e) ∙ h.is }
 
-  pub fetch_failed : {f : Fault} {t1 : Step} → r ≡ Missed f t1 → Runs (fetch flat k) s script t s (bad f (world s script t1))
+  pub fetch_failed : {e : Failure} → r ≡ Err e → Runs (fetch flat k) s script t s (bad e.fault (world s script e.step))
   fetch_failed e = record { fine = g; is = sym (ap (fetch_run s script) e) ∙ h.is }
 
-module _ {s script : Bytes} {at : ℕ} {t : Step} {r : NextAnswer} (g : good s ≡ true) (h : Visits s script at t r) where
-  pub next_done : {x : Next} {t1 : Step} → r ≡ Met x t1 → Runs (step flat) s script t s (ok tt (world s script t1))
+module _ {s script : Bytes} {at : ℕ} {t : Step} {r : Met} (g : good s ≡ true) (h : Visits s script at t r) where
+  pub next_done : {x : Option Place × Step} → r ≡ Ok x → Runs (step flat) s script t s (ok tt (world s script x.1))
   next_done e = record { fine = g; is = sym (ap (next_run s script) e) ∙ h.is }
 
-  pub next_failed : {f : Fault} {t1 : Step} → r ≡ Unmet f t1 → Runs (step flat) s script t s (bad f (world s script t1))
+  pub next_failed : {e : Failure} → r ≡ Err e → Runs (step flat) s script t s (bad e.fault (world s script e.step))
   next_failed e = record { fine = g; is = sym (ap (next_run s script) e) ∙ h.is }
 
 -- ---- a run, and what follows it
@@ -77,45 +70,41 @@ module _ {A : Type 0} {s script : Bytes} {t : Step} where
 -- ---- what an item call's answer makes of a run
 
 module _ {p : Prog Bytes (Unit {0})} {s script b : Bytes} {t : Step} where
-  pub done_ran : {t1 : Step} → Runs p s script t b (ok tt (world b script t1)) → Ran p s script t b (Done t1)
+  pub done_ran : {u : Step} → Runs p s script t b (ok tt (world b script u)) → Ran p s script t b (Ok u)
   done_ran h = record { fine = h.fine; is = h.is }
 
-  pub failed_ran : {f : Fault} {t1 : Step} → Runs p s script t b (bad f (world b script t1)) → Ran p s script t b (Failed f t1)
+  pub failed_ran : {e : Failure} → Runs p s script t b (bad e.fault (world b script e.step)) → Ran p s script t b (Err e)
   failed_ran h = record { fine = h.fine; is = h.is }
 
-  pub ran_runs : {r : ItemAnswer} → Ran p s script t b r → Runs p s script t b (item_run b script r)
+  pub ran_runs : {r : Answered} → Ran p s script t b r → Runs p s script t b (item_run b script r)
   ran_runs h = record { fine = h.fine; is = h.is }
 
-  pub runs_ran : (r : ItemAnswer) → Runs p s script t b (item_run b script r) → Ran p s script t b r
+  pub runs_ran : (r : Answered) → Runs p s script t b (item_run b script r) → Ran p s script t b r
   runs_ran r h = record { fine = h.fine; is = h.is }
 
 -- ---- an item call, and the item calls that follow it
 
-pub ran_as : {p q : Prog Bytes (Unit {0})} {s script b : Bytes} {t : Step} {r : ItemAnswer} → q ≡ p → Ran p s script t b r → Ran q s script t b r
+pub ran_as : {p q : Prog Bytes (Unit {0})} {s script b : Bytes} {t : Step} {r : Answered} → q ≡ p → Ran p s script t b r → Ran q s script t b r
 ran_as {s = s} {script = script} {t = t} e h = record { fine = h.fine; is = h.is ∙ ap (λ p. exec p (world s script t)) (sym e) }
 
-module _ {p : Prog Bytes (Unit {0})} {s script b : Bytes} {t : Step} {r : ItemAnswer} where
+module _ {p : Prog Bytes (Unit {0})} {s script b : Bytes} {t : Step} {r : Answered} where
   module _ (k : Unit {0} → Prog Bytes (Unit {0})) (h : Ran p s script t b r) where
-    pub seq_failed : {f : Fault} {t1 : Step} → r ≡ Failed f t1 → Ran (p ▷ k) s script t b r
-    seq_failed e =
-        let x = then_failed k (ran_failed h e) in
-        record { fine = x.fine; is = ap (item_run b script) e ∙ x.is }
+    pub seq_failed : {e : Failure} → r ≡ Err e → Ran (p ▷ k) s script t b (Err e)
+    seq_failed e = failed_ran (then_failed k (ran_failed h e))
 
-    pub seq_on : {t1 : Step} {b2 : Bytes} {r2 : ItemAnswer} → r ≡ Done t1 → Ran (k tt) b script t1 b2 r2 → Ran (p ▷ k) s script t b2 r2
+    pub seq_on : {u : Step} {b2 : Bytes} {r2 : Answered} → r ≡ Ok u → Ran (k tt) b script u b2 r2 → Ran (p ▷ k) s script t b2 r2
     seq_on {r2 = r2} e n = runs_ran r2 (then_on k err (ran_done h e) (ran_runs n))
 
-module _ {key s script : Bytes} {t : Step} {r : FetchAnswer} (k : Option Bytes → Prog Bytes (Unit {0})) (g : good s ≡ true) (h : Fetches key s script t r) where
-  pub fetch_seq_failed : {f : Fault} {t1 : Step} {u : ItemAnswer} → r ≡ Missed f t1 → u ≡ unfetched_of r → Ran (fetch flat key ▷ k) s script t s u
-  fetch_seq_failed e eu =
-      let x = then_failed k (fetch_failed g h e) in
-      record { fine = x.fine; is = ap (item_run s script) (eu ∙ ap unfetched_of e) ∙ x.is }
+module _ {key s script : Bytes} {t : Step} {r : Fetched} (k : Option Bytes → Prog Bytes (Unit {0})) (g : good s ≡ true) (h : Fetches key s script t r) where
+  pub fetch_seq_failed : {e : Failure} → r ≡ Err e → Ran (fetch flat key ▷ k) s script t s (Err e)
+  fetch_seq_failed e = failed_ran (then_failed k (fetch_failed g h e))
 
-  pub fetch_seq_on : {x : Spot} {t1 : Step} {b : Bytes} {r2 : ItemAnswer} → r ≡ Got x t1 → Ran (k (spotted s x)) s script t1 b r2 → Ran (fetch flat key ▷ k) s script t b r2
+  pub fetch_seq_on : {x : Option (Bor Bytes) × Step} {b : Bytes} {r2 : Answered} → r ≡ Ok x → Ran (k (value_of x.0)) s script x.1 b r2 → Ran (fetch flat key ▷ k) s script t b r2
   fetch_seq_on {r2 = r2} e n = runs_ran r2 (then_on k err (fetch_done g h e) (ran_runs n))
 
--- where a fetched value stands
-pub fetch_inside : {key s script : Bytes} {t t1 : Step} {r : FetchAnswer} {x : Spot} {at n : ℕ} → Fetches key s script t r → r ≡ Got x t1 → x ≡ At at n → Inside s at n
-fetch_inside {s = s} {t1 = t1} h e q = subst (GotInside s) (e ∙ ap (λ x. Got x t1) q) h.inside
+-- a fetched value is short
+pub fetch_short : {key s script : Bytes} {t : Step} {r : Fetched} {x : Option (Bor Bytes) × Step} {v : Bor Bytes} → Fetches key s script t r → r ≡ Ok x → x.0 ≡ Some v → length v.now ≤ 481
+fetch_short h e q = subst (λ o. IfSome o (λ v. length v.now ≤ 481)) q (subst (λ r. IfOk r (λ x. IfSome x.0 (λ v. length v.now ≤ 481))) e h.short)
 
 -- ---- loops: what is left to run of p, begun on the region s from step t, is q on the good image b from step t1
 

@@ -2,8 +2,7 @@
 // Document 01 defines them in "Calls", under batch. What a batch's operations are read from is no matter here.
 #![tactic(auto)]
 
-ghost use Rattle.std.specs.Prelude.{◌≡◌, true, []};
-ghost use Rattle.std.proofs.Math.Option.{none};
+ghost use Rattle.std.specs.Prelude.{◌≡◌, true, [], None};
 ghost use Rattle.definition.specs.Codec.{op_fault, encode, marker_key, journal_key};
 ghost use Rattle.definition.specs.Codec;
 ghost use Rattle.definition.specs.Region.{item, good};
@@ -12,14 +11,12 @@ ghost use Rattle.definition.specs.Recovery;
 ghost use Rattle.definition.specs.Calls;
 ghost use Rattle.definition.specs.Calls.{is_marker, read_back};
 ghost use Rattle.codec.specs.Forms.{op_as};
-ghost use Rattle.region.specs.Places.{spotted, InSpot};
-ghost use Rattle.items.specs.Forms.{Ran};
+ghost use Rattle.items.specs.Forms.{value_of, Ran};
 ghost use Rattle.gate.specs.Forms.{Says};
 
 use codec::OpKind;
-use definition::{Answer, CodecAnswer, Fault, Health, JOURNAL_ENTRY_MAX, Reply, Step};
-use items::{FetchAnswer, ItemAnswer};
-use region::Spot;
+use definition::{Answer, Fault, Health, JOURNAL_ENTRY_MAX, Reply, Step};
+use items::Failure;
 
 // ---- one operation that passed the batch's tests
 
@@ -32,105 +29,108 @@ pub fn write_entry(
     key: &[u8],
     value: &[u8],
     step: Step,
-) -> ItemAnswer
+) -> Result<Step, Failure>
     requires region_value { good region.old ≡ true }
-    requires value_value { op_fault (op_as kind key.now value.now) ≡ none }
+    requires value_value { op_fault (op_as kind key.now value.now) ≡ None }
     ensures { Ran (store flat (item (journal_key index) (encode (op_as kind key.now
         value.now)))) region.old script.now step region.new result }
 {
     let mut entry = [0u8; JOURNAL_ENTRY_MAX];
-    let encoded = codec::encode_op(kind, key, value, &mut entry);
-    let CodecAnswer::Len(n) = encoded else {
+    let n = match codec::encode_op(kind, key, value, &mut entry) {
+        Ok(n) => n,
         // Not reached: what passed the tests fits.
-        return ItemAnswer::Failed(Fault::EngineBug, step);
+        Err(fault) => return Err(Failure { fault, step }),
     };
-    let journal_key = codec::journal_key(index);
-    items::store(region, script, &journal_key, &entry[..n], step)
+    items::store(
+        region,
+        script,
+        &codec::journal_key(index),
+        &entry[..n],
+        step,
+    )
 }
 
 // ---- the marker
 
-pub fn write_marker(region: &mut [u8], script: &[u8], count: u16, step: Step) -> ItemAnswer
+pub fn write_marker(
+    region: &mut [u8],
+    script: &[u8],
+    count: u16,
+    step: Step,
+) -> Result<Step, Failure>
     requires { good region.old ≡ true }
     ensures { Ran (store flat (item marker_key (Codec.marker count))) region.old
         script.now step region.new result }
 {
-    let marker_key = codec::marker_key();
     let marker = codec::encode_marker(count);
-    items::store(region, script, &marker_key, &marker, step)
+    items::store(region, script, &codec::marker_key(), &marker, step)
 }
 
-pub fn remove_marker(region: &mut [u8], script: &[u8], step: Step) -> ItemAnswer
+pub fn remove_marker(region: &mut [u8], script: &[u8], step: Step) -> Result<Step, Failure>
     requires { good region.old ≡ true }
     ensures { Ran (remove flat marker_key) region.old script.now step region.new
         result }
 {
-    let marker_key = codec::marker_key();
-    items::remove(region, script, &marker_key, step)
+    items::remove(region, script, &codec::marker_key(), None, step)
 }
 
 // Whether the marker of so many operations was fetched.
-fn is_marker(region: &[u8], spot: Spot, count: u16) -> bool
-    requires { InSpot region.now spot }
-    ensures { result ≡ is_marker count (spotted region.now spot) }
+fn is_marker(fetched: Option<&[u8]>, count: u16) -> bool
+    ensures { result ≡ is_marker count (value_of fetched.entry) }
 {
-    let Spot::At(at, len) = spot else {
-        return false;
-    };
-    let marker = codec::encode_marker(count);
-    slices::same(slices::part(region, at, len), &marker)
+    match fetched {
+        Some(value) => slices::same(value, &codec::encode_marker(count)),
+        None => false,
+    }
 }
 
 // ---- from the commit point on
 
 // What a fault after the commit point is to the caller: the batch stands all the same.
-#[tactic(auto, using(crate::proofs::Committing::settled_stays))]
 fn settled(fault: Fault) -> Fault
     ensures { result ≡ Calls.settled fault }
 {
-    if numbers::number(fault) == 13 {
-        return fault;
+    match fault {
+        Fault::JournalCorrupted(_) => fault,
+        _ => Fault::BatchCommitted,
     }
-    Fault::BatchCommitted
 }
 
 // Finishes a batch that is committed by recovery.
-pub fn finish(region: &mut [u8], script: &[u8], step: Step) -> Reply
+pub fn finish(region: &mut [u8], script: &[u8], step: Step) -> Reply<Answer>
     requires { good region.old ≡ true }
     ensures { Says (Calls.finish flat) region.old script.now step region.new
         result.answer result.state result.calls [] }
 {
-    let recovered = recovery::recover(region, script, step);
-    let ItemAnswer::Done(next) = recovered else {
-        let failed = items::why(recovered);
-        let fault = failed.fault;
-        let stopped = failed.step;
-        return gate::reply(Answer::Refused(settled(fault)), Health::Pending, stopped);
-    };
-    gate::reply(Answer::Ok, Health::Clean, next)
+    match recovery::recover(region, script, step) {
+        Ok(next) => gate::reply(Ok(()), Health::Clean, next),
+        Err(failed) => gate::reply(Err(settled(failed.fault)), Health::Pending, failed.step),
+    }
 }
 
 // After a fault in the marker's write: only what stands there says whether the batch is committed. A store that once
 // took the failed write for a rollback told its caller "failed", and the next mount landed the batch: so the marker
 // is read back, and where that fails too, nobody knows.
-pub fn read_back(region: &mut [u8], script: &[u8], count: u16, fault: Fault, step: Step) -> Reply
+pub fn read_back(
+    region: &mut [u8],
+    script: &[u8],
+    count: u16,
+    fault: Fault,
+    step: Step,
+) -> Reply<Answer>
     requires { good region.old ≡ true }
     ensures { Says (read_back flat count fault) region.old script.now step
         region.new result.answer result.state result.calls [] }
 {
-    let marker_key = codec::marker_key();
-    let fetched = items::fetch(region, script, &marker_key, step);
-    let FetchAnswer::Got(spot, next) = fetched else {
-        let failed = items::why(items::unfetched(fetched));
-        let stopped = failed.step;
-        return gate::reply(
-            Answer::Refused(Fault::CommitUncertain),
-            Health::Pending,
-            stopped,
-        );
+    let (fetched, next) = match items::fetch(region, script, &codec::marker_key(), step) {
+        Ok(found) => found,
+        Err(failed) => {
+            let uncertain = Err(Fault::CommitUncertain);
+            return gate::reply(uncertain, Health::Pending, failed.step);
+        }
     };
-    if is_marker(region, spot, count) {
+    if is_marker(fetched, count) {
         return finish(region, script, next);
     }
-    gate::reply(Answer::Refused(fault), Health::Debris, next)
+    gate::reply(Err(fault), Health::Debris, next)
 }

@@ -1,14 +1,15 @@
--- What a listing, and a recovery that failed, make of a scan's reply.
+-- What a listing, and a refusal before it, make of a scan's reply.
+use Rattle.std.specs.Prelude.{Err}
+use Rattle.definition.specs.declared.Fault.{Fault}
 use Rattle.definition.specs.declared.Health.{Health}
-use Rattle.definition.specs.declared.ScanEnd.TheVariants.{Refused}
-use Rattle.definition.specs.declared.ScanReply.{ScanReply}
-use Rattle.items.specs.declared.Failure.{Failure}
+use Rattle.definition.specs.declared.Scanned.{Scanned}
+use Rattle.definition.specs.declared.Reply.{Reply}
 use Rattle.scan.specs.declared.Listing.{Listing}
 use Rattle.scan.specs.Forms.{scanned_of}
-use Rattle.gate.specs.Forms.{state_of}
+use Rattle.gate.specs.Forms.{reply_of}
 
-abbrev pub listed : Listing → Health → ScanReply
-listed l h = record { answer = scanned_of l; state = state_of h l.step; calls = l.step.calls }
+abbrev pub listed : Listing → Health → Reply Scanned
+listed l h = reply_of (scanned_of l) h l.step
 
-abbrev pub unlisted : Failure → Health → ScanReply
-unlisted w h = listed (record { end = Refused w.fault; count = 0; length = 0; step = w.step }) h
+abbrev pub unlisted : Fault → Scanned
+unlisted f = record { end = Err f; count = 0; length = 0 }

@@ -7,42 +7,30 @@ ghost use Rattle.definition.specs.Public;
 ghost use Rattle.definition.specs.Public.{outcome};
 ghost use Rattle.listing.specs.Forms.{listed, unlisted};
 
-use definition::{Fault, Health, ScanEnd, ScanReply, Scanned, State};
-use gate::Converged;
-use items::Failure;
+use definition::{Fault, Health, Reply, Scanned, State};
 use scan::Listing;
 
-// A listing as the call's reply.
-fn reply_of(listing: Listing, health: Health) -> ScanReply
-    ensures { result ≡ listed listing health }
+// A refusal before any record was written.
+fn unlisted(fault: Fault) -> Scanned
+    ensures { result ≡ unlisted fault }
 {
-    let end = listing.end;
-    let step = listing.step;
-    let state = gate::state_of(health, step);
-    ScanReply {
-        answer: Scanned {
-            end: end,
-            count: listing.count,
-            length: listing.length,
-        },
-        state: state,
-        calls: step.calls,
+    Scanned {
+        end: Err(fault),
+        count: 0,
+        length: 0,
     }
 }
 
-// The reply where the recovery failed: no record was written.
-fn refused_of(failed: Failure, health: Health) -> ScanReply
-    ensures { result ≡ unlisted failed health }
+// A listing as the call's reply.
+fn reply_of(listing: Listing, health: Health) -> Reply<Scanned>
+    ensures { result ≡ listed listing health }
 {
-    let fault = failed.fault;
-    let step = failed.step;
-    let listing = Listing {
-        end: ScanEnd::Refused(fault),
-        count: 0,
-        length: 0,
-        step: step,
+    let scanned = Scanned {
+        end: listing.end,
+        count: listing.count,
+        length: listing.length,
     };
-    reply_of(listing, health)
+    gate::reply(scanned, health, listing.step)
 }
 
 // Lists the records under a prefix in rising key order, at most `most` of them, as records at the front of `out`, and
@@ -58,33 +46,19 @@ pub fn scan_prefix(
     prefix: &[u8],
     most: usize,
     out: &mut [u8],
-) -> ScanReply
+) -> Reply<Scanned>
     ensures { outcome result.answer result.state result.calls region.new out.new
         ≡ Public.scan_prefix region.old script.now state prefix.now most
         out.old }
 {
     if !region::is_good(region) {
-        return ScanReply {
-            answer: Scanned {
-                end: ScanEnd::Refused(Fault::Corrupted),
-                count: 0,
-                length: 0,
-            },
-            state: state,
-            calls: 0,
-        };
+        return gate::unchanged(unlisted(Fault::Corrupted), state);
     }
-    let health = state.health;
-    let converged = gate::converge(
-        region,
-        script,
-        gate::is_pending(health),
-        health,
-        gate::begin(state),
-    );
-    let Converged::Ready(ready, step) = converged else {
-        return refused_of(gate::why(converged), health);
-    };
-    let listing = scan::scan_from(region, script, prefix, most, out, step);
-    reply_of(listing, ready)
+    match gate::ready(region, script, state) {
+        Ok((ready, step)) => {
+            let listing = scan::scan_from(region, script, prefix, most, out, step);
+            reply_of(listing, ready)
+        }
+        Err(failed) => gate::reply(unlisted(failed.fault), state.health, failed.step),
+    }
 }

@@ -3,15 +3,16 @@
 
 ghost use Rattle.std.specs.Prelude.{◌≡◌};
 ghost use Rattle.definition.specs.Numbers;
-ghost use Rattle.definition.specs.Numbers.{region_kind, capacity_kind, driver_kind};
 ghost use Rattle.numbers.specs.Forms.{serialization_three, journal_three, values_three};
 
-use definition::{CapacityKind, DriverKind, Fault, JournalPart, RegionKind, SerializationKind};
+use definition::{Fault, JournalPart, SerializationKind};
 
 // The values of a refusal, as many as it has, then zeros.
-#[derive(Clone, Copy)]
+#[derive(Clone, Copy, Debug, PartialEq, Eq)]
 pub struct Three(pub usize, pub usize, pub usize);
 
+// Document 01's numbers, which C and the console hear. No From: Fault and u8 are not this crate's.
+#[tactic(auto, unfolding(definition::specs::Numbers::number))]
 pub fn number(fault: Fault) -> u8
     ensures { result ≡ Numbers.number fault }
 {
@@ -37,78 +38,54 @@ pub fn number(fault: Fault) -> u8
     }
 }
 
-fn region_kind(kind: RegionKind) -> usize
-    ensures { result ≡ region_kind kind }
-{
-    match kind {
-        RegionKind::TooHigh => 0,
-        RegionKind::StartNotPageAligned => 1,
-        RegionKind::EndNotPageAligned => 2,
-        RegionKind::TooSmall => 3,
+// Of a kind that says more than its place among its fellows: the place, then what it says.
+impl From<SerializationKind> for Three {
+    ghost from_gives = { λ k r. r ≡ serialization_three k };
+
+    #[tactic(auto, unfolding(crate::specs::Forms::serialization_three, definition::specs::Numbers::serialization_values))]
+    fn from(kind: SerializationKind) -> Three {
+        match kind {
+            SerializationKind::BufferTooSmall => Three(0, 0, 0),
+            SerializationKind::InvalidData => Three(1, 0, 0),
+            SerializationKind::InvalidFormat => Three(2, 0, 0),
+            SerializationKind::Custom(code) => Three(3, code as usize, 0),
+        }
     }
 }
 
-fn capacity_kind(kind: CapacityKind) -> usize
-    ensures { result ≡ capacity_kind kind }
-{
-    match kind {
-        CapacityKind::Key => 0,
-        CapacityKind::Value => 1,
-        CapacityKind::BatchOperations => 2,
+impl From<JournalPart> for Three {
+    ghost from_gives = { λ p r. r ≡ journal_three p };
+
+    #[tactic(auto, unfolding(crate::specs::Forms::journal_three, definition::specs::Numbers::journal_values))]
+    fn from(part: JournalPart) -> Three {
+        match part {
+            JournalPart::MarkerCount(count) => Three(0, count, 0),
+            JournalPart::Entry(index) => Three(1, index, 0),
+        }
     }
 }
 
-fn driver_kind(kind: DriverKind) -> usize
-    ensures { result ≡ driver_kind kind }
-{
-    match kind {
-        DriverKind::NotAligned => 0,
-        DriverKind::OutOfBounds => 1,
-        DriverKind::Other => 2,
-    }
-}
-
-fn serialization_values(kind: SerializationKind) -> Three
-    ensures { result ≡ serialization_three kind }
-{
-    match kind {
-        SerializationKind::BufferTooSmall => Three(0, 0, 0),
-        SerializationKind::InvalidData => Three(1, 0, 0),
-        SerializationKind::InvalidFormat => Three(2, 0, 0),
-        SerializationKind::Custom(code) => Three(3, code as usize, 0),
-    }
-}
-
-fn journal_values(part: JournalPart) -> Three
-    ensures { result ≡ journal_three part }
-{
-    match part {
-        JournalPart::MarkerCount(count) => Three(0, count, 0),
-        JournalPart::Entry(index) => Three(1, index, 0),
-    }
-}
-
+#[tactic(auto, using(crate::proofs::Places::places), unfolding(crate::specs::Forms::values_three, definition::specs::Numbers::values))]
 pub fn values(fault: Fault) -> Three
     ensures { result ≡ values_three fault }
 {
     match fault {
-        Fault::BadRegion(kind) => Three(region_kind(kind), 0, 0),
-        Fault::CapacityExceeded(what, got, limit) => Three(capacity_kind(what), got, limit),
-        Fault::Driver(kind) => Three(driver_kind(kind), 0, 0),
-        Fault::BufferTooSmall(needed) => Three(needed, 0, 0),
-        Fault::Serialization(kind) => serialization_values(kind),
-        Fault::JournalCorrupted(part) => journal_values(part),
-        Fault::OutputTooSmall(needed) => Three(needed, 0, 0),
-        Fault::ReservedKey => Three(0, 0, 0),
-        Fault::WouldBlock => Three(0, 0, 0),
-        Fault::FullStorage => Three(0, 0, 0),
-        Fault::Corrupted => Three(0, 0, 0),
-        Fault::EngineBug => Three(0, 0, 0),
-        Fault::BufferTooBig => Three(0, 0, 0),
-        Fault::ItemTooBig => Three(0, 0, 0),
-        Fault::ScanStalled => Three(0, 0, 0),
-        Fault::BatchCommitted => Three(0, 0, 0),
-        Fault::CommitUncertain => Three(0, 0, 0),
-        Fault::BadList => Three(0, 0, 0),
+        Fault::BadRegion(kind) => Three(kind as usize, 0, 0),
+        Fault::CapacityExceeded(what, got, limit) => Three(what as usize, got, limit),
+        Fault::Driver(kind) => Three(kind as usize, 0, 0),
+        Fault::BufferTooSmall(needed) | Fault::OutputTooSmall(needed) => Three(needed, 0, 0),
+        Fault::Serialization(kind) => Three::from(kind),
+        Fault::JournalCorrupted(part) => Three::from(part),
+        Fault::ReservedKey
+        | Fault::WouldBlock
+        | Fault::FullStorage
+        | Fault::Corrupted
+        | Fault::EngineBug
+        | Fault::BufferTooBig
+        | Fault::ItemTooBig
+        | Fault::ScanStalled
+        | Fault::BatchCommitted
+        | Fault::CommitUncertain
+        | Fault::BadList => Three(0, 0, 0),
     }
 }

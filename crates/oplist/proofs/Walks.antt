@@ -2,139 +2,121 @@
 -- list's shape says of them.
 use mathlib.Core.Path.{◌≡◌, refl, sym, ap, ◌∙◌, subst}
 use mathlib.Core.List.{List, [], ◌∷◌}
-use mathlib.Core.Option.{Option, none, some, map}
+use Rattle.std.specs.Prelude.{Option, Some, None, option_map}
 use Prim.Native.Nat.{ℕ, ◌+◌, ◌≤◌, ◌<◌}
-use native.Mathlib.Nat.{zero-add, add-zero}
+use native.Mathlib.Nat.{add-zero}
 use native.Mathlib.Omega.{arith}
-use lib.Dec.{eqb}
-use borrow.Author.Tests.{eqb-true, eqb-false}
-use lib.ListN.{length, take, drop, length-drop}
+use lib.Dec.{leb}
+use borrow.Author.Tests.{leb-true, leb-false}
+use lib.ListN.{length, drop, length-drop}
 use lib.Seq.{drop-drop}
-use Rattle.definition.specs.Tools.{Bytes, opt}
+use Rattle.definition.specs.Tools.{Bytes}
 use Rattle.definition.specs.Codec.{Op, Put, op_key, op_value, op_fault}
-use Rattle.definition.specs.Region.{head_size}
-use Rattle.definition.specs.OperationList.{op_at, op_size, ops_of}
+use Rattle.definition.specs.OperationList.{op_size, ops_of}
 use Rattle.definition.proofs.Choices.{bool}
 use Rattle.codec.specs.declared.OpKind.{OpKind}
 use Rattle.codec.specs.declared.OpKind.TheVariants as K
 use Rattle.codec.specs.Forms.{op_as}
-use Rattle.region.specs.Places.{key_at, value_at}
-use Rattle.oplist.specs.declared.Next.{Next}
-use Rattle.oplist.specs.declared.Next.TheVariants as N
-use Rattle.oplist.specs.declared.Shape.{Shape}
-use Rattle.oplist.specs.declared.Shape.TheVariants.{Listed, Malformed}
-use Rattle.oplist.specs.Places.{Met, AtPlace, Visit, shape_of, ops_from, ops_in, Walk}
+use Rattle.oplist.specs.declared.ListOp.{ListOp}
+use Rattle.oplist.specs.declared.OpWalk.{OpWalk}
+use Rattle.oplist.specs.Places.{Visit, Met, shape_of, those, Listed, Given, Op-at, None-at, Found, Steps}
 use Rattle.oplist.proofs.Lists.{ops_empty, ops_on, ops_off}
 
--- ---- a visit, by its answer's case
+-- ---- the operations of a list that are left at a place
 
-module _ {s : Bytes} {at : ℕ} {r : Next} (h : Visit s at r) where
-  pub met_op : {kind : OpKind} {k v n : ℕ} → r ≡ N.Op kind k v n → Met s at kind k v n
-  met_op e = subst (AtPlace s at) e h.is
-
-  pub met_nothing : r ≡ N.Nothing → op_at (drop at s) ≡ none
-  met_nothing e = subst (AtPlace s at) e h.is
-
--- ---- the operations that are left
-
-module _ {s : Bytes} {at : ℕ} {kind : OpKind} {k v n : ℕ} (m : Met s at kind k v n) where
-  pub met_left : ops_of (drop at s) ≡ map (λ ops. op_as kind (key_at s at k) (value_at s at k v) ∷ ops) (ops_of (drop n s))
+module _ {s : Bytes} {at : ℕ} {o : ListOp} (m : Met s at o) where
+  met_left : ops_of (drop at s) ≡ option_map (λ ops. op_as o.kind o.key.now o.value.now ∷ ops) (ops_of (drop o.next s))
   met_left =
       let a = m.holds in
       let b = m.inside in
       let l = length-drop at s in
       ops_on (drop at s) (omega arith) m.op
-      ∙ ap (λ (t : Bytes). map (λ ops. op_as kind (key_at s at k) (value_at s at k v) ∷ ops) (ops_of t)) (drop-drop (op_size (drop at s)) at s ∙ ap (λ (x : ℕ). drop x s) (sym m.next_is))
+      ∙ ap (λ (t : Bytes). option_map (λ ops. op_as o.kind o.key.now o.value.now ∷ ops) (ops_of t)) (drop-drop (op_size (drop at s)) at s ∙ ap (λ (x : ℕ). drop x s) (sym m.next_is))
 
-walking : (s : Bytes) (at : ℕ) {ops : List Op} → ops_of (drop at s) ≡ some ops → (Walk s at) × (ops_from s at ≡ ops)
-unfolding ops_from opt
-walking s at {ops} e =
-    let i : ops_from s at ≡ ops = ap (λ (o : Option (List Op)). opt o [] (λ ops. ops)) e in
-    (record { is = e ∙ ap some (sym i) }, i)
+pub found_is : (s : Bytes) (at : ℕ) (r : Option ListOp) → Visit s at r → Found (λ n. ops_of (drop n s)) (length s) at r
+found_is s at None e =
+    record {
+      over = λ h. ops_empty (drop at s) (omega (arith, length-drop at s));
+      broken = λ h. ops_off (drop at s) (omega (arith, length-drop at s)) e;
+    }
+found_is s at (Some o) m =
+    record { given = record { first = met_left m; bare = m.bare }; on = omega (arith, m.holds); inside = m.inside }
 
--- what a list with one operation more says of the rest
-rest_of : {A : Type 0} (a : A) (o : Option (List A)) (l : List A) → map (λ ops. a ∷ ops) o ≡ some l → (b : List A) × ((o ≡ some b) × (l ≡ a ∷ b))
-rest_of a none l e = let z : ◌≡◌ {A = ℕ} 0 1 = cc in absurd (omega arith)
-rest_of a (some b) l e = let q : a ∷ b ≡ l = cc in (b, (refl, sym q))
+-- ---- a turn of a walk, of which the source and the place are known
 
-module _ {s : Bytes} {at : ℕ} (w : Walk s at) where
-  module _ {kind : OpKind} {k v n : ℕ} (m : Met s at kind k v n) where
-    rest : (b : List Op) × ((ops_of (drop n s) ≡ some b) × (ops_from s at ≡ op_as kind (key_at s at k) (value_at s at k v) ∷ b))
-    rest = rest_of _ _ _ (sym (met_left m) ∙ w.is)
+module _ {S : Type 0} (left : S → ℕ → Option (List Op)) (size : S → ℕ) {i j : OpWalk S} {s : S} {at : ℕ} where
+  pub step_at : {o : ListOp} → Steps (left i.source.now) (size i.source.now) i (Some o) j → i.source.now ≡ s → i.at ≡ at → Op-at (left s) (size s) at o
+  step_at {o} h es ea = subst (λ (n : ℕ). Op-at (left s) (size s) n o) ea (subst (λ (s : S). Op-at (left s) (size s) i.at o) es h.visit)
 
-    pub walk_on : Walk s n
-    walk_on = (walking s n rest.1.0).0
+  pub step_over : Steps (left i.source.now) (size i.source.now) i None j → i.source.now ≡ s → i.at ≡ at → None-at (left s) (size s) at
+  step_over h es ea = subst (λ (n : ℕ). None-at (left s) (size s) n) ea (subst (λ (s : S). None-at (left s) (size s) i.at) es h.visit)
 
-    pub walk_op : ops_from s at ≡ op_as kind (key_at s at k) (value_at s at k v) ∷ ops_from s n
-    walk_op = rest.1.1 ∙ ap (λ (b : List Op). op_as kind (key_at s at k) (value_at s at k v) ∷ b) (sym (walking s n rest.1.0).1)
-
-  pub walk_over : op_at (drop at s) ≡ none → ops_from s at ≡ []
-  walk_over e =
-      bool (eqb (length (drop at s)) 0) (λ t. (walking s at (ops_empty (drop at s) (eqb-true _ _ t))).1)
-      (λ f. let h : 0 < length (drop at s) = omega (arith, eqb-false (length (drop at s)) 0 f) in
-      let q : none ≡ some (ops_from s at) = sym (ops_off (drop at s) h e) ∙ w.is in
-      let z : ◌≡◌ {A = ℕ} 0 1 = cc in absurd (omega arith))
-
--- ---- the whole list
+-- ---- the whole of a source
 
 -- so many operations passed, and those that are left
-abbrev pub counted : ℕ → Option (List Op) → Shape
-counted n none = Malformed
-counted n (some ops) = Listed (n + length ops)
+abbrev pub counted : ℕ → Option (List Op) → Option ℕ
+counted n None = None
+counted n (Some ops) = Some (n + length ops)
 
-counted_none : (o : Option (List Op)) → shape_of o ≡ counted 0 o
-counted_none none = refl
-counted_none (some ops) = ap Listed (sym (zero-add (length ops)))
+counted_more : (n : ℕ) (op : Op) (o : Option (List Op)) → counted n (option_map (λ ops. op ∷ ops) o) ≡ counted (n + 1) o
+counted_more n op None = refl
+counted_more n op (Some ops) = let e : n + length (op ∷ ops) ≡ n + 1 + length ops = omega arith in ap Some e
 
-pub counted_start : (s : Bytes) → shape_of (ops_of s) ≡ counted 0 (ops_of (drop 0 s))
-counted_start s = counted_none (ops_of s)
+pub counted_none : (o : Option (List Op)) → shape_of o ≡ counted 0 o
+counted_none None = refl
+counted_none (Some ops) = let e : length ops ≡ 0 + length ops = omega arith in ap Some e
 
-counted_more : (n : ℕ) (op : Op) (o : Option (List Op)) → counted n (map (λ ops. op ∷ ops) o) ≡ counted (n + 1) o
-counted_more n op none = refl
-counted_more n op (some ops) = let e : n + length (op ∷ ops) ≡ n + 1 + length ops = omega arith in ap Listed e
+pub counted_on : {a b : Option (List Op)} {o : ListOp} (n : ℕ) → Given a b o → counted n a ≡ counted (n + 1) b
+counted_on {b = b} n g = ap (counted n) g.first ∙ counted_more n _ b
 
-module _ (s : Bytes) (at n : ℕ) where
-  pub counted_on : {kind : OpKind} {k v m : ℕ} → Met s at kind k v m → counted n (ops_of (drop at s)) ≡ counted (n + 1) (ops_of (drop m s))
-  counted_on {m = m} e = ap (counted n) (met_left e) ∙ counted_more n _ (ops_of (drop m s))
+module _ (left : ℕ → Option (List Op)) (size at n : ℕ) (v : None-at left size at) where
+  pub counted_end : size ≤ at → counted n (left at) ≡ Some n
+  counted_end h = ap (counted n) (v.over h) ∙ ap Some (add-zero n)
 
-  pub counted_off : at < length s → op_at (drop at s) ≡ none → counted n (ops_of (drop at s)) ≡ Malformed
-  counted_off h e = let l : 0 < length (drop at s) = omega (arith, length-drop at s) in ap (counted n) (ops_off (drop at s) l e)
+  pub counted_off : at < size → counted n (left at) ≡ None
+  counted_off h = ap (counted n) (v.broken h)
 
-  pub counted_end : length s ≤ at → counted n (ops_of (drop at s)) ≡ Listed n
-  counted_end h =
-      let l : length (drop at s) ≡ 0 = omega (arith, length-drop at s) in
-      ap (counted n) (ops_empty (drop at s) l) ∙ ap Listed (add-zero n)
+-- what its shape says of what is lent
+pub malformed_is : (o : Option (List Op)) → shape_of o ≡ None → o ≡ None
+malformed_is None e = refl
+malformed_is (Some ops) e = cc
 
--- what its shape says of a list
-pub malformed_none : (o : Option (List Op)) → shape_of o ≡ Malformed → o ≡ none
-malformed_none none e = refl
-malformed_none (some ops) e = let z : ◌≡◌ {A = ℕ} 0 1 = cc in absurd (omega arith)
+pub listed_is : (o : Option (List Op)) {n : ℕ} → shape_of o ≡ Some n → (Listed o) × (n ≡ length (those o))
+listed_is None e = let z : ◌≡◌ {A = ℕ} 0 1 = cc in absurd (omega arith)
+listed_is (Some ops) {n} e = let q : length ops ≡ n = cc in (refl, sym q)
 
-listed_some : (o : Option (List Op)) (n : ℕ) → shape_of o ≡ Listed n → (ops : List Op) × ((o ≡ some ops) × (n ≡ length ops))
-listed_some none n e = let z : ◌≡◌ {A = ℕ} 0 1 = cc in absurd (omega arith)
-listed_some (some ops) n e = let q : length ops ≡ n = cc in (ops, (refl, sym q))
+-- ---- a turn of a walk over a list of operations: what is left behind it
 
-module _ (s : Bytes) {r : Shape} {n : ℕ} (h : r ≡ shape_of (ops_of s)) (e : r ≡ Listed n) where
-  found : (ops : List Op) × ((ops_of s ≡ some ops) × (n ≡ length ops))
-  found = listed_some (ops_of s) n (sym h ∙ e)
+rest_of : (op : Op) (o : Option (List Op)) (l : List Op) → option_map (λ ops. op ∷ ops) o ≡ Some l → (Listed o) × (l ≡ op ∷ those o)
+rest_of op None l e = let z : ◌≡◌ {A = ℕ} 0 1 = cc in absurd (omega arith)
+rest_of op (Some b) l e = let q : op ∷ b ≡ l = cc in (refl, sym q)
 
-  pub listed_walk : Walk s 0
-  listed_walk = (walking s 0 found.1.0).0
+module _ {a b : Option (List Op)} (w : Listed a) {o : ListOp} (g : Given a b o) where
+  rest : (Listed b) × (those a ≡ op_as o.kind o.key.now o.value.now ∷ those b)
+  rest = rest_of _ b (those a) (sym g.first ∙ w)
 
-  pub listed_count : n ≡ length (ops_in s)
-  listed_count = found.1.1 ∙ ap length (sym (walking s 0 found.1.0).1)
+  pub walk_on : Listed b
+  walk_on = rest.0
 
-pub malformed_is : (s : Bytes) {r : Shape} → r ≡ shape_of (ops_of s) → r ≡ Malformed → ops_of s ≡ none
-malformed_is s h e = malformed_none (ops_of s) (sym h ∙ e)
+  pub walk_op : those a ≡ op_as o.kind o.key.now o.value.now ∷ those b
+  walk_op = rest.1
 
--- ---- an operation's tests, by its parts: those of a put, as a delete of a list has no value
+some_nil : (o : Option (List Op)) → o ≡ Some [] → those o ≡ []
+some_nil None e = refl
+some_nil (Some l) e = cc
 
+module _ {left : ℕ → Option (List Op)} {size at : ℕ} (w : Listed (left at)) (v : None-at left size at) where
+  pub walk_over : those (left at) ≡ []
+  walk_over =
+      bool (leb size at) (λ t. some_nil _ (v.over (leb-true _ _ t)))
+      (λ f. let q : None ≡ Some (those (left at)) = sym (v.broken (omega (arith, leb-false size at f))) ∙ w in
+      let z : ◌≡◌ {A = ℕ} 0 1 = cc in absurd (omega arith))
+
+-- an operation's tests, by its parts, are those of a put, as a delete of a list has no value
 fault_as : (kind : OpKind) (k v : Bytes) → (kind ≡ K.Delete → v ≡ []) → op_fault (op_as kind k v) ≡ op_fault (Put k v)
 unfolding op_as op_fault op_key op_value
 fault_as K.Put k v b = refl
 fault_as K.Delete k v b = ap (λ (x : Bytes). op_fault (Put k x)) (sym (b refl))
 
-pub met_fault : {s : Bytes} {at : ℕ} {kind : OpKind} {k v n : ℕ} → Met s at kind k v n
-    → op_fault (op_as kind (key_at s at k) (value_at s at k v)) ≡ op_fault (Put (key_at s at k) (value_at s at k v))
-unfolding value_at
-met_fault {s} {at} {kind} {k} {v} m = fault_as kind _ _ (λ e. ap (λ (x : ℕ). take x (drop (at + head_size + k) s)) (m.bare e))
+pub given_fault : {a b : Option (List Op)} {o : ListOp} → Given a b o → op_fault (op_as o.kind o.key.now o.value.now) ≡ op_fault (Put o.key.now o.value.now)
+given_fault {o = o} g = fault_as o.kind _ _ g.bare

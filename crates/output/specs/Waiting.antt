@@ -1,5 +1,5 @@
 -- Bytes that wait in a buffer to be written. Where one more has no room they are written all, and it with them.
-use Rattle.std.specs.Prelude.{[], ◌∷◌, ◌++◌, ℕ, zero, suc, ◌+◌, ◌/◌, ◌%◌, ltb, length, set}
+use Rattle.std.specs.Prelude.{[], ◌∷◌, ◌++◌, ℕ, zero, suc, ◌+◌, ◌/◌, ◌%◌, Bool, true, false, ltb, length, set, codes}
 use Rattle.output.specs.Digits.{hex_digit_ascii, last_digits}
 use Rattle.definition.specs.Tools.{Bytes, pick}
 
@@ -30,6 +30,11 @@ decimal_in (suc most) n = pick (ltb n 10) [] (decimal_in most (n / 10)) ++ (hex_
 -- n bounds it too: a tenth is less than its number
 unfoldable pub decimal_of : ℕ → Bytes
 decimal_of n = decimal_in n n
+
+-- an answer as a word: `yes` or `no`
+abbrev pub truth_of : Bool → Bytes
+truth_of true = codes "yes"
+truth_of false = codes "no"
 
 -- bytes in hex: two digits for each
 unfoldable pub hex_of : Bytes → Bytes

@@ -3,16 +3,15 @@
 use mathlib.Core.Path.{◌≡◌, refl, sym, ap, ap₂, ◌∙◌}
 use mathlib.Core.Bool.{Bool, true, false}
 use mathlib.Core.List.{List, [], ◌∷◌}
-use mathlib.Core.Option.{Option, none, some, map}
-use Prim.Native.Nat.{ℕ, ◌+◌, ◌-◌, ◌≤◌, ◌<◌}
-use native.Mathlib.Omega.{arith}
+use Rattle.std.specs.Prelude.{Option, None, Some, option_map}
+use Prim.Native.Nat.{ℕ, ◌+◌, ◌≤◌}
 use lib.ListN.{length, take, drop}
-use lib.Dec.{eqb, leb}
-use borrow.Author.Tests.{le-leb, lt-leb, leb-true, leb-false, eqb-true}
+use lib.Dec.{eqb}
+use borrow.Author.Tests.{leb-true, eqb-true}
 use Rattle.definition.specs.Tools.{Bytes, pick, opt}
-use Rattle.definition.specs.Codec.{Op, Put, Delete, op_key, op_value, op_fault}
+use Rattle.definition.specs.Codec.{Op, Put, Delete}
 use Rattle.definition.specs.OperationList.{put_kind, part_of, op_over, ops_over}
-use Rattle.definition.proofs.Choices.{picked, passed, pick_yes, pick_no, both, bool}
+use Rattle.definition.proofs.Choices.{pick_yes, pick_no, both, bool}
 use Rattle.definition.specs.declared.BatchOp.{BatchOp}
 use Rattle.codec.specs.declared.OpKind.{OpKind}
 use Rattle.codec.specs.declared.OpKind.TheVariants as K
@@ -22,39 +21,13 @@ use Rattle.pooled.specs.Parts.{part_at, inside, is_kind, is_op, are_ops, kind_of
 -- ---- a part
 
 module _ (pool : Bytes) (at len : ℕ) where
-  pub part_beyond : length pool < at → false ≡ inside pool at len
-  unfolding inside
-  part_beyond h = let l : length pool < at + len = omega arith in sym (lt-leb _ _ l)
-
-  pub part_is : at ≤ length pool → leb len (length pool - at) ≡ inside pool at len
-  unfolding inside
-  part_is h =
-      bool (leb len (length pool - at))
-      (λ t. let l : at + len ≤ length pool = omega (arith, leb-true len (length pool - at) t) in t ∙ sym (le-leb _ _ l))
-      (λ f. let l : length pool < at + len = omega (arith, leb-false len (length pool - at) f) in f ∙ sym (lt-leb _ _ l))
-
   pub part_fits : inside pool at len ≡ true → at + len ≤ length pool
   unfolding inside
   part_fits e = leb-true _ _ e
 
--- ---- the tests, in their order
+-- ---- what passed the tests
 
 module _ (pool : Bytes) (o : BatchOp) where
-  module _ {k : Bool} (ek : k ≡ inside pool o.key_at o.key_len) where
-    pub key_outside : k ≡ false → false ≡ is_op pool o
-    unfolding is_op
-    key_outside h = passed _ _ _ (sym ek ∙ h) refl
-
-    module _ (hk : k ≡ true) {v : Bool} (ev : v ≡ inside pool o.value_at o.value_len) where
-      pub value_outside : v ≡ false → false ≡ is_op pool o
-      unfolding is_op
-      value_outside h = picked _ _ _ (sym ek ∙ hk) (passed _ _ _ (sym ev ∙ h) refl)
-
-      pub kind_decides : v ≡ true → {r : Bool} → r ≡ is_kind o → r ≡ is_op pool o
-      unfolding is_op
-      kind_decides h e = picked _ _ _ (sym ek ∙ hk) (picked _ _ _ (sym ev ∙ h) e)
-
-  -- what passed them
   module _ (h : is_op pool o ≡ true) where
     tests : (inside pool o.key_at o.key_len ≡ true) × ((inside pool o.value_at o.value_len ≡ true) × (is_kind o ≡ true))
     unfolding is_op
@@ -81,28 +54,26 @@ module _ (pool : Bytes) (o : BatchOp) {kind : OpKind} {kp vp : Bytes} (e : kind 
       (λ t. ap (λ (k : OpKind). op_as k kp vp) (pick_yes K.Put K.Delete t) ∙ ap₂ Put ek ev ∙ sym (pick_yes _ _ t))
       (λ f. ap (λ (k : OpKind). op_as k kp vp) (pick_no K.Put K.Delete f) ∙ ap Delete ek ∙ sym (pick_no _ _ f))
 
-module _ (pool : Bytes) (o : BatchOp) (h : is_op pool o ≡ true) {kp vp : Bytes}
-    (ek : kp ≡ part_at pool o.key_at o.key_len) (ev : vp ≡ part_at pool o.value_at o.value_len) where
+-- a delete's value part is empty
+module _ (pool : Bytes) (o : BatchOp) (h : is_op pool o ≡ true) where
   bare : eqb o.kind put_kind ≡ false → o.value_len ≡ 0
   unfolding is_kind
   bare f = eqb-true _ _ (both _ _ (sym (pick_no _ _ f) ∙ (tests pool o h).1.1)).1
 
-  -- a delete's value part is empty, so that the tests of both kinds are those of a put
-  pub fault_is : op_fault (op_named pool o) ≡ op_fault (Put kp vp)
-  unfolding op_named op_fault op_key op_value part_at
-  fault_is =
+  pub value_bare : {kind : OpKind} {vp : Bytes} → kind ≡ kind_of o → vp ≡ part_at pool o.value_at o.value_len → kind ≡ K.Delete → vp ≡ []
+  unfolding kind_of part_at
+  value_bare e ev d =
       bool (eqb o.kind put_kind)
-      (λ t. ap op_fault (pick_yes _ _ t) ∙ ap₂ (λ (a b : Bytes). op_fault (Put a b)) (sym ek) (sym ev))
-      (λ f. ap op_fault (pick_no _ _ f)
-      ∙ ap₂ (λ (a b : Bytes). op_fault (Put a b)) (sym ek) (sym (ev ∙ ap (λ (n : ℕ). take n (drop o.value_at pool)) (bare f))))
+      (λ t. let z : K.Put ≡ K.Delete = sym (pick_yes K.Put K.Delete t) ∙ sym e ∙ d in cc)
+      (λ f. ev ∙ ap (λ (n : ℕ). take n (drop o.value_at pool)) (bare f))
 
 -- ---- tested, then read: the definition's list
 
 -- the tests of the key's part, the value's part and the kind, one behind the other
 one_law : (a b c d e : Bool) (k v : Bytes)
-    → opt (pick a (some k) none) none (λ x. opt (pick b (some v) none) none
-    (λ y. pick c (some (Put x y)) (pick d (pick e (some (Delete x)) none) none)))
-    ≡ pick (pick a (pick b (pick c true (pick d e false)) false) false) (some (pick c (Put k v) (Delete k))) none
+    → opt (pick a (Some k) None) None (λ x. opt (pick b (Some v) None) None
+    (λ y. pick c (Some (Put x y)) (pick d (pick e (Some (Delete x)) None) None)))
+    ≡ pick (pick a (pick b (pick c true (pick d e false)) false) false) (Some (pick c (Put k v) (Delete k))) None
 unfolding pick opt
 one_law false b c d e k v = refl
 one_law true false c d e k v = refl
@@ -112,19 +83,19 @@ one_law true true false true true k v = refl
 one_law true true false true false k v = refl
 
 all_law : (a b : Bool) (op : Op) (ops : List Op)
-    → opt (pick a (some op) none) none (λ x. map (λ xs. x ∷ xs) (pick b (some ops) none)) ≡ pick (pick a b false) (some (op ∷ ops)) none
+    → opt (pick a (Some op) None) None (λ x. option_map (λ xs. x ∷ xs) (pick b (Some ops) None)) ≡ pick (pick a b false) (Some (op ∷ ops)) None
 unfolding pick opt
 all_law false b op ops = refl
 all_law true true op ops = refl
 all_law true false op ops = refl
 
-op_over_is : (pool : Bytes) (o : BatchOp) → op_over pool o ≡ pick (is_op pool o) (some (op_named pool o)) none
+pub op_over_is : (pool : Bytes) (o : BatchOp) → op_over pool o ≡ pick (is_op pool o) (Some (op_named pool o)) None
 unfolding op_over part_of is_op inside is_kind op_named part_at
 op_over_is pool o = one_law _ _ _ _ _ _ _
 
-pub ops_over_is : (pool : Bytes) (os : List BatchOp) → ops_over pool os ≡ pick (are_ops pool os) (some (ops_named pool os)) none
+pub ops_over_is : (pool : Bytes) (os : List BatchOp) → ops_over pool os ≡ pick (are_ops pool os) (Some (ops_named pool os)) None
 unfolding ops_over are_ops ops_named pick
 ops_over_is pool [] = refl
 ops_over_is pool (o ∷ os) =
-    ap₂ (λ (x : Option Op) (xs : Option (List Op)). opt x none (λ op. map (λ ops. op ∷ ops) xs)) (op_over_is pool o) (ops_over_is pool os)
+    ap₂ (λ (x : Option Op) (xs : Option (List Op)). opt x None (λ op. option_map (λ ops. op ∷ ops) xs)) (op_over_is pool o) (ops_over_is pool os)
     ∙ all_law (is_op pool o) (are_ops pool os) (op_named pool o) (ops_named pool os)

@@ -1,36 +1,17 @@
 -- A key's hash as the code goes along it, two bytes a turn; and a class is one of the n.
-use mathlib.Core.Path.{◌≡◌, sym, ap, ◌∙◌}
-use mathlib.Core.List.{◌∷◌}
-use Prim.Native.Nat.{ℕ, suc, ◌+◌, ◌*◌, ◌%◌, ◌≤◌, ◌<◌}
-use native.Mathlib.Nat.{mul_comm, mul-le-mul_right, mul-lt-mul_of_pos_right, div-lt_iff_lt-mul}
-use native.Mathlib.Numerals.{add-one}
-use native.Mathlib.Omega.{arith}
-use lib.ListN.{length, get_or, drop, drop_of_length-le}
-use lib.Seq.{drop-cons}
+use Rattle.std.specs.Prelude.{◌≡◌, ℕ, ◌+◌, ◌-◌, ◌*◌, ◌%◌, ◌≤◌, ◌<◌, [], ◌∷◌, length, get_or, take, drop}
+use Rattle.std.proofs.Common.{sym, ap, ap₂, ◌∙◌, arith}
+use Rattle.std.proofs.Math.Nat.{mul_comm, mul-le-mul_right, mul-lt-mul_of_pos_right, div-lt_iff_lt-mul}
 use Rattle.definition.specs.Tools.{Bytes}
-use Rattle.definition.specs.Region.{le16_at}
+use Rattle.std.proofs.lemmas.List.{take_rest}
 use Rattle.prints.specs.Prints.{mixed, hash_from, most_classes, class_of}
 
-module _ (s : Bytes) (i h : ℕ) where
-  pub hash_two : {x : ℕ} → i + 1 < length s → x ≡ le16_at s i → hash_from h (drop i s) ≡ hash_from (mixed h x) (drop (i + 2) s)
-  unfolding hash_from le16_at
-  hash_two {x} l e =
-      let n : suc (i + 1) ≡ i + 2 = omega arith in
-      let d : drop i s ≡ get_or s i 0 ∷ (get_or s (i + 1) 0 ∷ drop (i + 2) s) =
-      drop-cons s i 0 (omega arith)
-      ∙ ap (λ (r : Bytes). get_or s i 0 ∷ r) (ap (λ (n : ℕ). drop n s) (sym (add-one i)) ∙ drop-cons s (i + 1) 0 l
-      ∙ ap (λ (n : ℕ). get_or s (i + 1) 0 ∷ drop n s) n) in
-      ap (hash_from h) d ∙ ap (λ (y : ℕ). hash_from (mixed h y) (drop (i + 2) s)) (sym e)
-
-  pub hash_one : {x : ℕ} → i < length s → length s ≤ i + 1 → x ≡ get_or s i 0 → hash_from h (drop i s) ≡ mixed h x
-  unfolding hash_from
-  hash_one {x} l m e =
-      let n : length s ≤ suc i = omega arith in
-      ap (hash_from h) (drop-cons s i 0 l ∙ ap (λ (r : Bytes). get_or s i 0 ∷ r) (drop_of_length-le s n)) ∙ ap (mixed h) (sym e)
-
-  pub hash_over : length s ≤ i → hash_from h (drop i s) ≡ h
-  unfolding hash_from
-  hash_over l = ap (hash_from h) (drop_of_length-le s l)
+pub hash_two : (h : ℕ) (s : Bytes) {x y : ℕ} → 2 ≤ length s → x ≡ get_or s 0 0 + get_or s 1 0 * 256 → y ≡ mixed h x
+    → hash_from h s ≡ hash_from y (take (length s - 2) (drop 2 s))
+unfolding hash_from
+hash_two h [] l e f = absurd (omega arith)
+hash_two h (a ∷ []) l e f = absurd (omega arith)
+hash_two h (a ∷ b ∷ s) l e f = ap₂ hash_from (sym (f ∙ ap (mixed h) e)) (sym (take_rest (a ∷ b ∷ s) 2))
 
 pub class_fits : (n h : ℕ) → h % most_classes * n ≤ most_classes * n
 class_fits n h = mul-le-mul_right n (omega arith)

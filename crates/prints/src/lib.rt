@@ -5,7 +5,8 @@
 #![tactic(auto)]
 
 ghost use Rattle.std.specs.Prelude.{◌≡◌, ◌<◌, ◌≤◌, length};
-ghost use Rattle.prints.specs.Prints.{word, mixed, finished, hash_of, most_classes, class_of, table_size, Notes};
+ghost use Rattle.prints.specs.Prints.{word, mixed, finished, hash_from, hash_of};
+ghost use Rattle.prints.specs.Prints.{most_classes, class_of, table_size, Notes};
 
 // A hash is below this.
 const WORD: usize = 4294967296;
@@ -26,6 +27,7 @@ pub const TABLE: usize = 8208;
 
 // Two bytes more. The middle of the product is kept: its low end is a sum of multiples, by which keys that differ
 // alike get hashes that differ alike.
+#[tactic(auto, unfolding(crate::specs::Prints::mixed))]
 fn mix(h: usize, x: usize) -> usize
     requires { (h < word) × (x < 65536) }
     ensures { (result ≡ mixed h x) × (result < word) }
@@ -34,6 +36,7 @@ fn mix(h: usize, x: usize) -> usize
 }
 
 // The last step, in which the high half counts for the low one.
+#[tactic(auto, unfolding(crate::specs::Prints::finished))]
 fn finish(h: usize) -> usize
     requires { h < word }
     ensures { (result ≡ finished h) × (result < word) }
@@ -42,19 +45,20 @@ fn finish(h: usize) -> usize
 }
 
 // A key's hash.
+#[tactic(auto, unfolding(crate::specs::Prints::hash_of, crate::specs::Prints::hash_from))]
 pub fn hash(key: &[u8]) -> usize
     ensures { (result ≡ hash_of key.now) × (result < word) }
 {
-    let mut h: usize = key.len() % WORD;
-    let mut i: usize = 0;
-    while i + 1 < key.len() {
-        h = mix(h, slices::le16_at(key, i));
-        i += 2;
+    let mut h = key.len() % WORD;
+    let mut left = key;
+    while let [low, high, further @ ..] = left {
+        h = mix(h, usize::from(u16::from_le_bytes([*low, *high])));
+        left = further;
     }
-    if i < key.len() {
-        return finish(mix(h, slices::wide(key[i])));
+    match left {
+        [last] => finish(mix(h, slices::wide(*last))),
+        _ => finish(h),
     }
-    finish(h)
 }
 
 // ---- classes
@@ -63,11 +67,11 @@ pub fn hash(key: &[u8]) -> usize
 pub fn classes(keys: usize) -> usize
     ensures { (0 < result) × (result ≤ most_classes) }
 {
-    let n = keys / PER_CLASS;
-    if n < CLASSES { n + 1 } else { CLASSES }
+    (keys / PER_CLASS + 1).min(CLASSES)
 }
 
 // The class of a hash, of so many.
+#[tactic(auto, using(crate::proofs::Hashes::class_fits), unfolding(crate::specs::Prints::class_of))]
 pub fn class_of(h: usize, n: usize) -> usize
     requires { n ≤ most_classes }
     ensures { result ≡ class_of n h }
@@ -85,9 +89,7 @@ pub fn note(table: &mut [u8; TABLE], h: usize) -> bool
 {
     let print = (h / 4096 % 255 + 1) as u8;
     let first = h / PER_PLACE;
-    let end = first + LOOK;
-    let mut i = first;
-    while i < end {
+    for i in first..first + LOOK {
         let there = table[i];
         if there == 0 {
             table[i] = print;
@@ -96,7 +98,6 @@ pub fn note(table: &mut [u8; TABLE], h: usize) -> bool
         if there == print {
             return true;
         }
-        i += 1;
     }
     true
 }

@@ -2,7 +2,7 @@
 -- program to a public call.
 use mathlib.Core.Path.{◌≡◌}
 use mathlib.Core.Bool.{true}
-use mathlib.Core.Option.{Option, none, some}
+use Rattle.std.specs.Prelude.{Option, None, Some}
 use Prim.Native.Nat.{ℕ}
 use lib.ListN.{length}
 use Rattle.definition.specs.Tools.{Bytes, pick}
@@ -43,12 +43,12 @@ module _ (len : ℕ) where
 
   -- under the newest state
   abbrev pub Holds : Option State → Plain → Bytes → Type 0
-  Holds none A region = Whichever A region
-  Holds (some st) A region = Standing st.health A region
+  Holds None A region = Whichever A region
+  Holds (Some st) A region = Standing st.health A region
 
   pub whichever : (o : Option State) {A : Plain} {region : Bytes} → Holds o A region → Whichever A region
-  whichever none m = m
-  whichever (some st) m = to_either flat flat_laws base len st.health m
+  whichever None m = m
+  whichever (Some st) m = to_either flat flat_laws base len st.health m
 
   pub image_good : {A : Plain} {region : Bytes} → Whichever A region → good region ≡ true
   image_good m = is_good flat flat_laws base len m

@@ -3,7 +3,7 @@
 use mathlib.Core.Path.{◌≡◌, refl, ap}
 use mathlib.Core.Bool.{Bool, true, false}
 use mathlib.Core.List.{List, [], ◌∷◌}
-use mathlib.Core.Option.{Option, none, some}
+use Rattle.std.specs.Prelude.{Option, None, Some, Ok, Err}
 use Prim.Native.Nat.{ℕ, ◌-◌}
 use lib.ListN.{replicate}
 use Rattle.definition.specs.Tools.{Bytes}
@@ -14,10 +14,7 @@ use Rattle.definition.specs.declared.State.{State}
 use Rattle.definition.specs.declared.Fault.TheVariants.{Driver, CommitUncertain}
 use Rattle.definition.specs.declared.DriverKind.TheVariants.{Other}
 use Rattle.definition.specs.declared.Health.TheVariants.{Clean, Pending}
-use Rattle.definition.specs.declared.Answer.{Answer}
-use Rattle.definition.specs.declared.Answer.TheVariants.{Ok, Refused}
-use Rattle.definition.specs.declared.GetAnswer.TheVariants as Get
-use Rattle.definition.specs.declared.TruthAnswer.TheVariants as Truth
+use Rattle.definition.specs.Answers.{Answer}
 use Rattle.definition.specs.declared.ScanEnd.TheVariants.{Finished}
 use Rattle.definition.proofs.Computes.{computes}
 use Rattle.definition.proofs.Image.{erased}
@@ -63,7 +60,7 @@ run =
     ∷ mount 0 6 ∷ get a (0 ∷ []) ∷ scan_prefix [] 100 (replicate 11 0) ∷ []
 
 abbrev erased_store : Moment
-erased_store = record { region = replicate 8192 255; script = []; newest = none }
+erased_store = record { region = replicate 8192 255; script = []; newest = None }
 
 start : Start erased_store
 unfolding look fetched
@@ -80,22 +77,22 @@ abbrev holding : ℕ → ℕ → Space
 holding used takes = record { used = used; free = 8192 - used; takes = takes }
 
 abbrev empty : Option State
-empty = some (state Clean 0 false (holding 0 0))
+empty = Some (state Clean 0 false (holding 0 0))
 
 abbrev clean : ℕ → Option State
-clean at = some (state Clean at false (holding 11 1))
+clean at = Some (state Clean at false (holding 11 1))
 
 abbrev pending : ℕ → Bool → Option State
-pending at cut = some (state Pending at cut (holding 59 1))
+pending at cut = Some (state Pending at cut (holding 59 1))
 
 abbrev failed : Answer
-failed = Refused (Driver Other)
+failed = Err (Driver Other)
 
-turn1 : turn (mount 0 0) erased_store ≡ hears (answered Ok) (moment [] [] empty)
+turn1 : turn (mount 0 0) erased_store ≡ hears (answered (Ok tt)) (moment [] [] empty)
 unfolding computes turn made batched mounting state_after
 turn1 = refl
 
-turn2 : turn (put a (0x31 ∷ [])) (moment [] [] empty) ≡ hears (answered Ok) (moment (holds 0x31 ∷ []) [] (clean 0))
+turn2 : turn (put a (0x31 ∷ [])) (moment [] [] empty) ≡ hears (answered (Ok tt)) (moment (holds 0x31 ∷ []) [] (clean 0))
 unfolding computes turn made batched mounting state_after
 turn2 = refl
 
@@ -108,7 +105,7 @@ turn4 : turn (put a (0x32 ∷ [])) (moment (holds 0x31 ∷ []) lying (clean 0)) 
 unfolding computes turn made batched mounting state_after
 turn4 = refl
 
-turn5 : turn (get a (0 ∷ [])) (moment (holds 0x32 ∷ []) lying (clean 1)) ≡ hears (got (Get.Found 1) (0x32 ∷ [])) (moment (holds 0x32 ∷ []) lying (clean 1))
+turn5 : turn (get a (0 ∷ [])) (moment (holds 0x32 ∷ []) lying (clean 1)) ≡ hears (got (Ok (Some 1)) (0x32 ∷ [])) (moment (holds 0x32 ∷ []) lying (clean 1))
 unfolding computes turn made batched mounting state_after
 turn5 = refl
 
@@ -118,31 +115,31 @@ turn6 = refl
 
 -- 16: this one is in too, as the remount will show
 turn7 : turn (apply_batch (from_list list)) (moment (holds 0x32 ∷ []) cutting (clean 0))
-    ≡ hears (answered (Refused CommitUncertain)) (moment committed cutting (pending 4 false))
+    ≡ hears (answered (Err CommitUncertain)) (moment committed cutting (pending 4 false))
 unfolding computes turn made batched mounting state_after
 turn7 = refl
 
 -- the power goes while it recovers
 turn8 : turn (get a (0 ∷ [])) (moment committed cutting (pending 4 false))
-    ≡ hears (got (Get.Refused (Driver Other)) (0 ∷ [])) (moment committed cutting (pending 6 true))
+    ≡ hears (got (Err (Driver Other)) (0 ∷ [])) (moment committed cutting (pending 6 true))
 unfolding computes turn made batched mounting state_after
 turn8 = refl
 
 turn9 : turn (contains a) (moment committed cutting (pending 6 true))
-    ≡ hears (told (Truth.Refused (Driver Other))) (moment committed cutting (pending 6 true))
+    ≡ hears (told (Err (Driver Other))) (moment committed cutting (pending 6 true))
 unfolding computes turn made batched mounting state_after
 turn9 = refl
 
-turn10 : turn (mount 0 6) (moment committed cutting (pending 6 true)) ≡ hears (answered Ok) (moment (holds 0x33 ∷ []) cutting (clean 6))
+turn10 : turn (mount 0 6) (moment committed cutting (pending 6 true)) ≡ hears (answered (Ok tt)) (moment (holds 0x33 ∷ []) cutting (clean 6))
 unfolding computes turn made batched mounting state_after
 turn10 = refl
 
-turn11 : turn (get a (0 ∷ [])) (moment (holds 0x33 ∷ []) cutting (clean 6)) ≡ hears (got (Get.Found 1) (0x33 ∷ [])) (moment (holds 0x33 ∷ []) cutting (clean 6))
+turn11 : turn (get a (0 ∷ [])) (moment (holds 0x33 ∷ []) cutting (clean 6)) ≡ hears (got (Ok (Some 1)) (0x33 ∷ [])) (moment (holds 0x33 ∷ []) cutting (clean 6))
 unfolding computes turn made batched mounting state_after
 turn11 = refl
 
 turn12 : turn (scan_prefix [] 100 (replicate 11 0)) (moment (holds 0x33 ∷ []) cutting (clean 6))
-    ≡ hears (listed (record { end = Finished; count = 1; length = 11 }) (0x0b ∷ 0 ∷ 0 ∷ 0 ∷ 1 ∷ 0 ∷ 1 ∷ 0 ∷ 1 ∷ 0x61 ∷ 0x33 ∷ []))
+    ≡ hears (listed (record { end = Ok Finished; count = 1; length = 11 }) (0x0b ∷ 0 ∷ 0 ∷ 0 ∷ 1 ∷ 0 ∷ 1 ∷ 0 ∷ 1 ∷ 0x61 ∷ 0x33 ∷ []))
     (moment (holds 0x33 ∷ []) cutting (clean 6))
 unfolding computes turn made batched mounting state_after
 turn12 = refl
@@ -155,9 +152,9 @@ pub data Hears : List Call → Moment → List Heard → Type 0 where
   then : {c : Call} {cs : List Call} {h : Heard} {hs : List Heard} {m next : Moment} → turn c m ≡ hears h next → Hears cs next hs → Hears (c ∷ cs) m (h ∷ hs)
 
 heard : Hears run erased_store
-    (answered Ok ∷ answered Ok ∷ nothing ∷ answered failed ∷ got (Get.Found 1) (0x32 ∷ []) ∷ nothing ∷ answered (Refused CommitUncertain)
-    ∷ got (Get.Refused (Driver Other)) (0 ∷ []) ∷ told (Truth.Refused (Driver Other)) ∷ answered Ok ∷ got (Get.Found 1) (0x33 ∷ [])
-    ∷ listed (record { end = Finished; count = 1; length = 11 }) (0x0b ∷ 0 ∷ 0 ∷ 0 ∷ 1 ∷ 0 ∷ 1 ∷ 0 ∷ 1 ∷ 0x61 ∷ 0x33 ∷ []) ∷ [])
+    (answered (Ok tt) ∷ answered (Ok tt) ∷ nothing ∷ answered failed ∷ got (Ok (Some 1)) (0x32 ∷ []) ∷ nothing ∷ answered (Err CommitUncertain)
+    ∷ got (Err (Driver Other)) (0 ∷ []) ∷ told (Err (Driver Other)) ∷ answered (Ok tt) ∷ got (Ok (Some 1)) (0x33 ∷ [])
+    ∷ listed (record { end = Ok Finished; count = 1; length = 11 }) (0x0b ∷ 0 ∷ 0 ∷ 0 ∷ 1 ∷ 0 ∷ 1 ∷ 0 ∷ 1 ∷ 0x61 ∷ 0x33 ∷ []) ∷ [])
 heard =
     then turn1 (then turn2 (then turn3 (then turn4 (then turn5
     (then turn6 (then turn7 (then turn8 (then turn9 (then turn10 (then turn11 (then turn12 ends)))))))))))

@@ -4,7 +4,7 @@ use mathlib.Core.Path.{◌≡◌, refl, ap, ◌∙◌, subst}
 use mathlib.Core.Logic.{◌≢◌}
 use mathlib.Core.Bool.{Bool, true, false, not}
 use mathlib.Core.List.{List, [], ◌∷◌}
-use mathlib.Core.Option.{Option, none, some}
+use Rattle.std.specs.Prelude.{Option, None, Some}
 use Prim.Native.Nat.{ℕ, ◌+◌, ◌%◌, ◌≤◌}
 use native.Mathlib.Omega.{arith}
 use lib.ListN.{length, get_or}
@@ -92,18 +92,18 @@ script_obeys script t =
 
 -- a test's fault, if there is one
 abbrev Says : Option Fault → Type 0
-Says o = (f : Fault) → o ≡ some f → Outright f
+Says o = (f : Fault) → o ≡ Some f → Outright f
 
-one : (f : Fault) → Outright f → Says (some f)
+one : (f : Fault) → Outright f → Says (Some f)
 one f x g e = subst Outright (some_some e) x
   where
-    some_some : some f ≡ some g → f ≡ g
+    some_some : Some f ≡ Some g → f ≡ g
     some_some p = cc
 
-never : Says none
+never : Says None
 never f e = absurd (none≢some e)
 
-pub put_outright : (k v : Bytes) (f : Fault) → put_fault k v ≡ some f → Outright f
+pub put_outright : (k v : Bytes) (f : Fault) → put_fault k v ≡ Some f → Outright f
 unfolding put_fault outright number pick
 put_outright k v =
     pick_to Says (long_value v) (λ t. one _ refl) (λ t. pick_to Says (reserved k) (λ t. one _ refl) (λ t. pick_to Says (long_key k) (λ t. one _ refl) (λ t. never)))
@@ -119,11 +119,11 @@ unfolding ops_fault
 ops_outright [] = never
 ops_outright (op ∷ ops) = opt_to Says (op_fault op) (λ e. ops_outright ops) (λ f e. one f (op_outright op f e))
 
-pub batch_outright : (ops : List Op) (f : Fault) → batch_fault ops ≡ some f → Outright f
+pub batch_outright : (ops : List Op) (f : Fault) → batch_fault ops ≡ Some f → Outright f
 unfolding batch_fault outright number pick
 batch_outright ops = pick_to Says (ltb batch_limit (length ops)) (λ t. one _ refl) (λ t. ops_outright ops)
 
-pub region_outright : (start len : ℕ) (f : Fault) → region_fault start len ≡ some f → Outright f
+pub region_outright : (start len : ℕ) (f : Fault) → region_fault start len ≡ Some f → Outright f
 unfolding region_fault outright number pick
 region_outright start len =
     pick_to Says (leb 4294967296 (start + len)) (λ t. one _ refl)

@@ -3,14 +3,14 @@
 use mathlib.Core.Path.{◌≡◌, refl, sym, ap, ◌∙◌, subst}
 use mathlib.Core.Bool.{true}
 use mathlib.Core.List.{List, [], ◌∷◌}
-use mathlib.Core.Option.{Option, none, some}
+use Rattle.std.specs.Prelude.{Option, None, Some, Err}
 use Prim.Native.Nat.{ℕ}
 use lib.ListN.{length}
 use Rattle.definition.specs.Tools.{Bytes, pick, opt}
 use Rattle.definition.specs.Region.{Item, good}
 use Rattle.definition.specs.Codec.{Op, Put, Delete, laid}
 use Rattle.definition.specs.Script.{fate}
-use Rattle.definition.specs.Numbers.{number, refusal, get_refusal, truth_refusal, scan_refusal}
+use Rattle.definition.specs.Numbers.{number, refusal}
 use Rattle.definition.specs.Program.{Prog, World, world, exec, flat}
 use Rattle.definition.specs.Calls.{Said, batch_of, region_fault}
 use Rattle.definition.specs.Calls as Calls
@@ -21,12 +21,7 @@ use Rattle.definition.specs.declared.State.{State}
 use Rattle.definition.specs.declared.Step as Declared
 use Rattle.definition.specs.declared.Fault.{Fault}
 use Rattle.definition.specs.declared.Health.{Health}
-use Rattle.definition.specs.declared.Answer.{Answer}
-use Rattle.definition.specs.declared.Answer.TheVariants.{Refused}
-use Rattle.definition.specs.declared.GetAnswer.{GetAnswer}
-use Rattle.definition.specs.declared.GetAnswer.TheVariants as Get
-use Rattle.definition.specs.declared.TruthAnswer.{TruthAnswer}
-use Rattle.definition.specs.declared.TruthAnswer.TheVariants as Truth
+use Rattle.definition.specs.Answers.{Answer, GetAnswer, TruthAnswer}
 use Rattle.definition.specs.declared.Scanned.{Scanned}
 use Rattle.definition.proofs.Choices.{pick_yes, opt_to}
 use Rattle.reasons.proofs.Ensures.{Ensures, by_ret, by_option, weaken, Ends, Obeys, exec_ensures}
@@ -75,13 +70,13 @@ first_of_all x = record { in_order = x.in_order; complete = λ k e. x.complete k
 
 -- ---- a refusal's number, as the calls' proofs know it and as the promise says it
 
-pub out_of : {A : Plain} {c : Call} {h : Heard} {f : Fault} → refusal_of h ≡ some f → Outright f → P.Step A c h A
+pub out_of : {A : Plain} {c : Call} {h : Heard} {f : Fault} → refusal_of h ≡ Some f → Outright f → P.Step A c h A
 out_of {f = f} r x = let n = outright_range f x in P.out r n.0 n.1 n.2
 
-put_in_of : {A : Plain} {key value : Bytes} {f : Fault} → ItemFault f → P.Step A (put key value) (answered (Refused f)) (after (Put key value) A)
+put_in_of : {A : Plain} {key value : Bytes} {f : Fault} → ItemFault f → P.Step A (put key value) (answered (Err f)) (after (Put key value) A)
 put_in_of {f = f} x = let n = item_range f x in P.put_in n.0 n.1
 
-delete_in_of : {A : Plain} {key : Bytes} {f : Fault} → ItemFault f → P.Step A (delete key) (told (Truth.Refused f)) (after (Delete key) A)
+delete_in_of : {A : Plain} {key : Bytes} {f : Fault} → ItemFault f → P.Step A (delete key) (told (Err f)) (after (Delete key) A)
 delete_in_of {f = f} x = let n = item_range f x in P.delete_in n.0 n.1
 
 -- ---- any script brings item faults only
@@ -116,7 +111,7 @@ module _ (len : ℕ) where
   module _ {A : Plain} where
     get_done : {key output : Bytes} {r : Said GetAnswer} {s : Bytes} → Answers.GetSays flat flat_laws base len ItemFault A key (length output) r s
         → Done A (get key output) (got r.answer (laid r.wrote output)) r.health s
-    unfolding laid outright number pick refusal_of get_refusal Shows
+    unfolding laid outright number pick refusal_of refusal Shows
     get_done (Answers.get_found e m) = done A (P.ok (P.get_found e)) (handed refl) m
     get_done (Answers.get_absent e m) = done A (P.ok (P.get_absent e)) (handed refl) m
     get_done (Answers.get_small e l m) = done A (out_of refl refl) untouched m
@@ -124,7 +119,7 @@ module _ (len : ℕ) where
 
     contains_done : {key : Bytes} {r : Said TruthAnswer} {s : Bytes} → Answers.ContainsSays flat flat_laws base len ItemFault A key r s
         → Done A (contains key) (told r.answer) r.health s
-    unfolding refusal_of truth_refusal Shows
+    unfolding refusal_of refusal Shows
     contains_done (Answers.contains_yes e m) = done A (P.ok (P.contains_yes e)) tt m
     contains_done (Answers.contains_no e m) = done A (P.ok (P.contains_no e)) tt m
     contains_done (Answers.contains_failed c m) = done A (out_of refl (item_outright _ (caused_item _ c))) tt m
@@ -139,14 +134,14 @@ module _ (len : ℕ) where
 
     delete_done : {key : Bytes} {r : Said TruthAnswer} {s : Bytes} → Answers.DeleteSays flat flat_laws base len ItemFault A key r s
         → Done A (delete key) (told r.answer) r.health s
-    unfolding outright number pick refusal_of truth_refusal Shows
+    unfolding outright number pick refusal_of refusal Shows
     delete_done {key} (Answers.delete_yes {h = h} {s = s} e m) = also h s (after_is (Delete key) A) (P.ok (P.delete_yes e)) tt m
     delete_done (Answers.delete_no e m) = done A (P.ok (P.delete_no e)) tt m
     delete_done (Answers.delete_reserved m) = done A (out_of refl refl) tt m
     delete_done {key} (Answers.delete_in {h = h} {s = s} c m) = also h s (after_is (Delete key) A) (delete_in_of (caused_item _ c)) tt m
     delete_done (Answers.delete_out c m) = done A (out_of refl (item_outright _ (caused_item _ c))) tt m
 
-    batch_done : {source : Source} {ops : List Op} {r : Said Answer} {s : Bytes} → operations source ≡ some ops
+    batch_done : {source : Source} {ops : List Op} {r : Said Answer} {s : Bytes} → operations source ≡ Some ops
         → Batches.BatchSays flat flat_laws base len ItemFault A ops r s → Done A (apply_batch source) (answered r.answer) r.health s
     unfolding refusal_of refusal Shows
     batch_done {ops = ops} e (Batches.batch_done {h = h} {s = s} m) = also h s (after_all_is ops A) (P.ok (P.batch_ok e)) tt m
@@ -159,7 +154,7 @@ module _ (len : ℕ) where
     scan_done : {prefix output : Bytes} {most : ℕ} {r : Said Scanned} {s : Bytes}
         → Scans.ScanSays rising rising_order flat flat_laws base len ItemFault A prefix most (length output) r s
         → Done A (scan_prefix prefix most output) (listed r.answer (laid r.wrote output)) r.health s
-    unfolding refusal_of scan_refusal Shows Ended
+    unfolding refusal_of refusal Shows Ended
     scan_done (Scans.scan_finished x m) = done A (P.ok (P.scan_finished (whole_is x))) (wrote (first_of_all (whole_is x)) tt) m
     scan_done (Scans.scan_stopped x l m) = done A P.stopped (wrote (first_is x) l) m
     scan_done (Scans.scan_full i x y l m) = done A P.no_room (wrote (first_is x) (i, first_is y, l)) m
@@ -174,7 +169,7 @@ module _ (len : ℕ) where
 
   module _ (A : Plain) (region script : Bytes) (st : State) (m : Standing len st.health A region) where
     image : good region ≡ true
-    image = image_good len (whichever len (some st) m)
+    image = image_good len (whichever len (Some st) m)
 
     -- a call of this answer, and what is heard of it
     call : {X : Type 0} {Q : Said X → Bytes → Type 0} {c : Call} (refuse : Fault → X) (hear : Outcome X → Heard) {p : Prog Bytes (Said X)} (output : Bytes)
@@ -190,25 +185,25 @@ module _ (len : ℕ) where
         → let r = Public.get region script st key output in Done A (get key output) (got r.answer r.output) r.state.health r.region
     unfolding Public.get
     get_call key output =
-        call Get.Refused (λ r. got r.answer r.output) output
+        call Err (λ r. got r.answer r.output) output
         (Answers.get_ensures flat flat_laws base len ItemFault key (length output) st.health region m) (λ r w q. get_done q)
 
     contains_call : (key : Bytes) → let r = Public.contains region script st key in Done A (contains key) (told r.answer) r.state.health r.region
     unfolding Public.contains
     contains_call key =
-        call Truth.Refused (λ r. told r.answer) [] (Answers.contains_ensures flat flat_laws base len ItemFault key st.health region m)
+        call Err (λ r. told r.answer) [] (Answers.contains_ensures flat flat_laws base len ItemFault key st.health region m)
         (λ r w q. contains_done q)
 
     put_call : (key value : Bytes)
         → let r = Public.put region script st key value in Done A (put key value) (answered r.answer) r.state.health r.region
     unfolding Public.put
     put_call key value =
-        call Refused (λ r. answered r.answer) [] (Answers.put_ensures flat flat_laws base len ItemFault key value st.health region m) (λ r w q. put_done q)
+        call Err (λ r. answered r.answer) [] (Answers.put_ensures flat flat_laws base len ItemFault key value st.health region m) (λ r w q. put_done q)
 
     delete_call : (key : Bytes) → let r = Public.delete region script st key in Done A (delete key) (told r.answer) r.state.health r.region
     unfolding Public.delete
     delete_call key =
-        call Truth.Refused (λ r. told r.answer) [] (Answers.delete_ensures flat flat_laws base len ItemFault key st.health region m)
+        call Err (λ r. told r.answer) [] (Answers.delete_ensures flat flat_laws base len ItemFault key st.health region m)
         (λ r w q. delete_done q)
 
     scan_call : (prefix : Bytes) (most : ℕ) (output : Bytes) → let r = Public.scan_prefix region script st prefix most output in
@@ -228,7 +223,7 @@ module _ (len : ℕ) where
         (λ ops e. weaken (Batches.batch_ensures flat flat_laws base len ItemFault item_not_13 A ops st.health region m) (λ r s q. batch_done e q) (λ f s x. x))
 
     -- a batch is the same call, wherever its operations come from
-    batched_is : (source : Source) → batched source region script st ≡ public Refused (batch_of flat (operations source) st.health) region script st []
+    batched_is : (source : Source) → batched source region script st ≡ public Err (batch_of flat (operations source) st.health) region script st []
     unfolding batched operations Public.apply_batch Public.apply_ops
     batched_is (from_list list) = refl
     batched_is (from_pool ops pool) = refl
@@ -237,7 +232,7 @@ module _ (len : ℕ) where
         → let r = batched source region script st in Done A (apply_batch source) (answered r.answer) r.state.health r.region
     batch_call source =
         subst (λ (r : Outcome Answer). Done A (apply_batch source) (answered r.answer) r.state.health r.region) (sym (batched_is source))
-        (call Refused (λ r. answered r.answer) [] (source_ensures source) (λ r w q. q))
+        (call Err (λ r. answered r.answer) [] (source_ensures source) (λ r w q. q))
 
   -- ---- a mount, from whatever stands
 
@@ -255,7 +250,7 @@ module _ (len : ℕ) where
   unfolding Public.mount state_after refusal_of refusal
   mount_call A region script start at m =
       opt_to (Mounted A start at) (region_fault start (length region))
-      (λ e. on_public Refused (Mounted A start at) (Calls.mount flat) region script (unmounted region at) [] (image_good len m)
+      (λ e. on_public Err (Mounted A start at) (Calls.mount flat) region script (unmounted region at) [] (image_good len m)
       (runs region script (unmounted region at) (Answers.mount_ensures flat flat_laws base len ItemFault region m)) (λ r w q. mount_says q))
       (λ f e. record { step = out_of refl (region_outright _ _ f e); holds = m })
 
@@ -270,33 +265,33 @@ module _ (len : ℕ) where
   take_turn : (A : Plain) (c : Call) (region script : Bytes) (o : Option State) → Holds len o A region
       → Turned A c (record { region = region; script = script; newest = o })
   unfolding turn made mounting opt Shows
-  take_turn A (rescript new at) region script none m = record { after = A; step = P.unmade; shows = tt; holds = m }
-  take_turn A (rescript new at) region script (some st) m = record { after = A; step = P.unmade; shows = tt; holds = m }
+  take_turn A (rescript new at) region script None m = record { after = A; step = P.unmade; shows = tt; holds = m }
+  take_turn A (rescript new at) region script (Some st) m = record { after = A; step = P.unmade; shows = tt; holds = m }
   take_turn A (mount start at) region script o m =
       let r = mount_call A region script start at (whichever len o m) in
       record { after = A; step = r.step; shows = tt; holds = r.holds }
-  take_turn A (get key output) region script none m = record { after = A; step = P.unmade; shows = tt; holds = m }
-  take_turn A (get key output) region script (some st) m =
+  take_turn A (get key output) region script None m = record { after = A; step = P.unmade; shows = tt; holds = m }
+  take_turn A (get key output) region script (Some st) m =
       let r = get_call A region script st m key output in
       record { after = r.after; step = r.step; shows = r.shows; holds = r.stands }
-  take_turn A (contains key) region script none m = record { after = A; step = P.unmade; shows = tt; holds = m }
-  take_turn A (contains key) region script (some st) m =
+  take_turn A (contains key) region script None m = record { after = A; step = P.unmade; shows = tt; holds = m }
+  take_turn A (contains key) region script (Some st) m =
       let r = contains_call A region script st m key in
       record { after = r.after; step = r.step; shows = r.shows; holds = r.stands }
-  take_turn A (put key value) region script none m = record { after = A; step = P.unmade; shows = tt; holds = m }
-  take_turn A (put key value) region script (some st) m =
+  take_turn A (put key value) region script None m = record { after = A; step = P.unmade; shows = tt; holds = m }
+  take_turn A (put key value) region script (Some st) m =
       let r = put_call A region script st m key value in
       record { after = r.after; step = r.step; shows = r.shows; holds = r.stands }
-  take_turn A (delete key) region script none m = record { after = A; step = P.unmade; shows = tt; holds = m }
-  take_turn A (delete key) region script (some st) m =
+  take_turn A (delete key) region script None m = record { after = A; step = P.unmade; shows = tt; holds = m }
+  take_turn A (delete key) region script (Some st) m =
       let r = delete_call A region script st m key in
       record { after = r.after; step = r.step; shows = r.shows; holds = r.stands }
-  take_turn A (apply_batch source) region script none m = record { after = A; step = P.unmade; shows = tt; holds = m }
-  take_turn A (apply_batch source) region script (some st) m =
+  take_turn A (apply_batch source) region script None m = record { after = A; step = P.unmade; shows = tt; holds = m }
+  take_turn A (apply_batch source) region script (Some st) m =
       let r = batch_call A region script st m source in
       record { after = r.after; step = r.step; shows = r.shows; holds = r.stands }
-  take_turn A (scan_prefix prefix most output) region script none m = record { after = A; step = P.unmade; shows = tt; holds = m }
-  take_turn A (scan_prefix prefix most output) region script (some st) m =
+  take_turn A (scan_prefix prefix most output) region script None m = record { after = A; step = P.unmade; shows = tt; holds = m }
+  take_turn A (scan_prefix prefix most output) region script (Some st) m =
       let r = scan_call A region script st m prefix most output in
       record { after = r.after; step = r.step; shows = r.shows; holds = r.stands }
 

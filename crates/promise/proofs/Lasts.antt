@@ -3,7 +3,7 @@
 use mathlib.Core.Path.{◌≡◌, refl, sym, ◌∙◌, subst}
 use mathlib.Core.Bool.{false}
 use mathlib.Core.List.{[]}
-use mathlib.Core.Option.{Option, none, some}
+use Rattle.std.specs.Prelude.{Option, None, Some, Err}
 use Prim.Native.Nat.{ℕ, ◌%◌}
 use native.Mathlib.Omega.{arith}
 use lib.ListN.{length, get_or}
@@ -21,10 +21,7 @@ use Rattle.definition.specs.declared.State.{State}
 use Rattle.definition.specs.declared.Step.{Step}
 use Rattle.definition.specs.declared.Fault.{Fault}
 use Rattle.definition.specs.declared.Verdict.TheVariants.{Pass}
-use Rattle.definition.specs.declared.Answer.{Answer}
-use Rattle.definition.specs.declared.Answer.TheVariants.{Refused}
-use Rattle.definition.specs.declared.TruthAnswer.{TruthAnswer}
-use Rattle.definition.specs.declared.TruthAnswer.TheVariants as Truth
+use Rattle.definition.specs.Answers.{Answer, TruthAnswer}
 use Rattle.definition.proofs.Choices.{pick_yes, pick_no, bool, opt_none}
 use Rattle.reasons.proofs.Ensures.{Ensures, Ends, Obeys, exec_ensures}
 use Rattle.reasons.proofs.FlatLaws.{flat_laws}
@@ -90,26 +87,26 @@ module _ (len : ℕ) where
       → Responds (told (Public.contains region script st key).answer)
   unfolding Public.contains
   contains_lasts A region script st key m u c =
-      on_public Truth.Refused (λ r. Responds (told r.answer)) _ region script st []
-      (image_good len (whichever len (some st) m))
+      on_public Err (λ r. Responds (told r.answer)) _ region script st []
+      (image_good len (whichever len (Some st) m))
       (quiet_runs region script st u c (Answers.contains_ensures flat flat_laws base len NoFault key st.health region m)) (λ r w q. contains_responds q)
 
-  mount_lasts : (A : Plain) (region script : Bytes) (start at : ℕ) → Whichever len A region → region_fault start (length region) ≡ none → Calm script at
+  mount_lasts : (A : Plain) (region script : Bytes) (start at : ℕ) → Whichever len A region → region_fault start (length region) ≡ None → Calm script at
       → Responds (answered (Public.mount region script start at).answer)
   unfolding Public.mount
   mount_lasts A region script start at m e c =
-      rw (opt_none (Public.public Refused (Calls.mount flat) region script (unmounted region at) [])
-      (λ f. outcome (Refused f) (unmounted region at) 0 region []) e)
-      (on_public Refused (λ r. Responds (answered r.answer)) (Calls.mount flat) region script (unmounted region at) [] (image_good len m)
+      rw (opt_none (Public.public Err (Calls.mount flat) region script (unmounted region at) [])
+      (λ f. outcome (Err f) (unmounted region at) 0 region []) e)
+      (on_public Err (λ r. Responds (answered r.answer)) (Calls.mount flat) region script (unmounted region at) [] (image_good len m)
       (quiet_runs region script (unmounted region at) refl c (Answers.mount_ensures flat flat_laws base len NoFault region m)) (λ r w q. mount_responds q))
 
   -- at any moment under whose newest state the items stand for some map
   module _ (m : Moment) (A : Plain) (h : Holds len m.newest A m.region) where
-    contains_turn : (st : State) (key : Bytes) → m.newest ≡ some st → st.cut ≡ false → Calm m.script st.at → Responds (turn (contains key) m).heard
+    contains_turn : (st : State) (key : Bytes) → m.newest ≡ Some st → st.cut ≡ false → Calm m.script st.at → Responds (turn (contains key) m).heard
     unfolding turn made opt
     contains_turn st key e u c = rw e (contains_lasts A m.region m.script st key (subst (λ (o : Option State). Holds len o A m.region) e h) u c)
 
-    mount_turn : (start at : ℕ) → region_fault start (length m.region) ≡ none → Calm m.script at → Responds (turn (mount start at) m).heard
+    mount_turn : (start at : ℕ) → region_fault start (length m.region) ≡ None → Calm m.script at → Responds (turn (mount start at) m).heard
     unfolding turn mounting
     mount_turn start at e c = mount_lasts A m.region m.script start at (whichever len m.newest h) e c
 
@@ -121,5 +118,5 @@ last_sentence m s run =
           (λ g. let (A, h) = run_holds len run (plain_of m) m (started m s g) in contains_turn len (later run m) A h st key e u c)
           (λ g. absurd (none≢some (sym (bad_unmounted (plain_of m) run m s.unmounted g) ∙ e))),
       λ start at g e. let (A, h) = run_holds len run (plain_of m) m (started m s g) in
-          mount_turn len (later run m) A h start at (subst (λ (l : ℕ). region_fault start l ≡ none) (sym (lent_whole m s run)) e),
+          mount_turn len (later run m) A h start at (subst (λ (l : ℕ). region_fault start l ≡ None) (sym (lent_whole m s run)) e),
     )

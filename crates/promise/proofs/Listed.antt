@@ -4,7 +4,7 @@ use mathlib.Core.Path.{◌≡◌, refl, sym, ap, ◌∙◌, subst}
 use mathlib.Core.Logic.{◌≢◌}
 use mathlib.Core.Bool.{true, false}
 use mathlib.Core.List.{List, [], ◌∷◌}
-use mathlib.Core.Option.{none, some}
+use Rattle.std.specs.Prelude.{None, Some}
 use native.Mathlib.Omega.{arith}
 use lib.ListN.{length, take, length-take}
 use lib.Seq.{take_all}
@@ -33,22 +33,22 @@ asymmetric : (a b : Bytes) → rising a b ≡ true → rising b a ≡ true → �
 asymmetric a b p q = true≢false (rising_transitive a b a p q) (rising_irreflexive a)
 
 -- what stands behind an item is not its key again
-not_behind : (i : Item) (is : List Item) → Rises (i ∷ is) → fetched i.key is ≡ none
+not_behind : (i : Item) (is : List Item) → Rises (i ∷ is) → fetched i.key is ≡ None
 unfolding beyond
 not_behind i is r =
     cases (fetched i.key is) (λ e. e)
-    (λ v e. absurd (true≢false (found_after rising rising_order (some i.key) i.key is r.0 r.1 e) (rising_irreflexive i.key)))
+    (λ v e. absurd (true≢false (found_after rising rising_order (Some i.key) i.key is r.0 r.1 e) (rising_irreflexive i.key)))
 
-first_of_two : (i : Item) (k : Bytes) (is : List Item) {v : Bytes} → fetched k (i ∷ is) ≡ some v → i.key ≢ k → fetched k is ≡ some v
+first_of_two : (i : Item) (k : Bytes) (is : List Item) {v : Bytes} → fetched k (i ∷ is) ≡ Some v → i.key ≢ k → fetched k is ≡ Some v
 unfolding fetched
 first_of_two i k is e n = bool (has_key k i) (λ t. absurd (n (key_of k i t))) (λ f. sym (pick_no _ _ f) ∙ e)
 
 -- all that is not beyond the last of `is` is the same in both
 abbrev Same : List Item → List Item → Type 0
-Same is all = (k : Bytes) → beyond rising (last_of none is) k ≡ false → fetched k is ≡ fetched k all
+Same is all = (k : Bytes) → beyond rising (last_of None is) k ≡ false → fetched k is ≡ fetched k all
 
 module _ (i : Item) (is : List Item) (j : Item) (all : List Item) (r : Rises (i ∷ is)) (q : Rises (j ∷ all)) (h : Same (i ∷ is) (j ∷ all)) where
-  here : fetched i.key (j ∷ all) ≡ some i.value
+  here : fetched i.key (j ∷ all) ≡ Some i.value
   unfolding last_of fetched
   here = sym (h i.key (not_beyond rising rising_order i.key i.key is r.0 r.1 (rising_irreflexive i.key)))
       ∙ pick_yes _ _ (has_its_key i.key i refl)
@@ -58,12 +58,12 @@ module _ (i : Item) (is : List Item) (j : Item) (all : List Item) (r : Rises (i 
   same_key =
       bool (eqs j.key i.key) (eqs_true j.key i.key)
       (λ f.
-      let below : rising j.key i.key ≡ true = found_after rising rising_order (some j.key) i.key all q.0 q.1
+      let below : rising j.key i.key ≡ true = found_after rising rising_order (Some j.key) i.key all q.0 q.1
       (sym (pick_no _ _ (other f)) ∙ here) in
       let not_above : rising i.key j.key ≡ false = bool (rising i.key j.key) (λ t. absurd (asymmetric j.key i.key below t)) (λ n. n) in
-      let there : fetched j.key (i ∷ is) ≡ some j.value =
+      let there : fetched j.key (i ∷ is) ≡ Some j.value =
       h j.key (not_beyond rising rising_order i.key j.key is r.0 r.1 not_above) ∙ pick_yes _ _ (has_its_key j.key j refl) in
-      absurd (true≢false (found_after rising rising_order (some i.key) j.key is r.0 r.1
+      absurd (true≢false (found_after rising rising_order (Some i.key) j.key is r.0 r.1
       (first_of_two i j.key is there (λ p. true≢false (eqs_refl i.key) (ap (λ x. eqs x i.key) p ∙ f)))) not_above))
     where
       other : eqs j.key i.key ≡ false → has_key i.key j ≡ false
@@ -73,19 +73,19 @@ module _ (i : Item) (is : List Item) (j : Item) (all : List Item) (r : Rises (i 
   unfolding fetched
   same_value = some_is (sym (pick_yes _ _ (has_its_key i.key j same_key)) ∙ here)
     where
-      some_is : {a b : Bytes} → some a ≡ some b → a ≡ b
+      some_is : {a b : Bytes} → Some a ≡ Some b → a ≡ b
       some_is p = cc
 
   same_item : i ≡ j
   same_item = ap (λ (k : Bytes). item k i.value) (sym same_key) ∙ ap (λ (v : Bytes). item j.key v) (sym same_value)
 
-  behind : (k : Bytes) → beyond rising (last_of none (i ∷ is)) k ≡ false → fetched k is ≡ fetched k all
+  behind : (k : Bytes) → beyond rising (last_of None (i ∷ is)) k ≡ false → fetched k is ≡ fetched k all
   unfolding fetched
   behind k e =
       bool (has_key k i)
       (λ t.
       let p : i.key ≡ k = key_of k i t in
-      subst (λ x. fetched x is ≡ none) p (not_behind i is r) ∙ sym (subst (λ x. fetched x all ≡ none) (same_key ∙ p) (not_behind j all q)))
+      subst (λ x. fetched x is ≡ None) p (not_behind i is r) ∙ sym (subst (λ x. fetched x all ≡ None) (same_key ∙ p) (not_behind j all q)))
       (λ f. sym (pick_no _ _ f) ∙ h k e ∙ pick_no _ _ (ap (has_key k) (sym same_item) ∙ f))
 
 first : (is all : List Item) → Rises is → Rises all → Same is all → is ≡ take (length is) all
@@ -93,7 +93,7 @@ unfolding last_of fetched
 first [] all r q h = refl
 first (i ∷ is) [] r q h =
     absurd (none≢some (sym (h i.key (not_beyond rising rising_order i.key i.key is r.0 r.1 (rising_irreflexive i.key)))
-    ∙ pick_yes (some i.value) (fetched i.key is) (has_its_key i.key i refl)))
+    ∙ pick_yes (Some i.value) (fetched i.key is) (has_its_key i.key i refl)))
 first (i ∷ []) (j ∷ all) r q h = ap (λ (x : Item). x ∷ []) (same_item i [] j all r q h)
 first (i ∷ (x ∷ is)) (j ∷ all) r q h =
     ap (λ (y : Item). y ∷ x ∷ is) (same_item i (x ∷ is) j all r q h)

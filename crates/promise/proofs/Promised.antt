@@ -4,21 +4,20 @@ use mathlib.Core.Path.{◌≡◌, refl, sym, ap, ◌∙◌, subst}
 use mathlib.Core.Logic.{◌≢◌}
 use mathlib.Core.Bool.{true, false}
 use mathlib.Core.List.{List, [], ◌∷◌, ◌++◌}
-use mathlib.Core.Option.{Option, none, some}
+use Rattle.std.specs.Prelude.{Option, None, Some, Err}
 use Prim.Native.Nat.{ℕ}
 use native.Mathlib.Omega.{arith}
 use lib.ListN.{length}
 use Rattle.definition.specs.Tools.{Bytes, pick, opt}
 use Rattle.definition.specs.Region.{good}
 use Rattle.definition.specs.Codec.{reserved, marker_key}
-use Rattle.definition.specs.Numbers.{number, refusal, get_refusal, truth_refusal, scan_refusal}
+use Rattle.definition.specs.Numbers.{number, refusal}
 use Rattle.definition.specs.Calls.{unstorable, region_fault}
 use Rattle.definition.specs.Public.{Outcome, outcome, public}
 use Rattle.definition.specs.Public as Public
 use Rattle.definition.specs.declared.State.{State}
 use Rattle.definition.specs.declared.Fault.{Fault}
-use Rattle.definition.specs.declared.Answer.{Answer}
-use Rattle.definition.specs.declared.Answer.TheVariants.{Refused}
+use Rattle.definition.specs.Answers.{Answer}
 use Rattle.definition.proofs.Choices.{pick_no, bool, opt_to}
 use Rattle.definition.proofs.Codecs.{marker_reserved}
 use Rattle.reasons.proofs.FlatLaws.{flat_laws}
@@ -47,7 +46,7 @@ start_holds m s g =
 -- ---- what is no good image is never mounted, and stays as it is
 
 data Spurned (region : Bytes) : Outcome Answer → Type 0 where
-  spurned : {f : Fault} {st : State} {n : ℕ} {output : Bytes} → Outright f → Spurned region (outcome (Refused f) st n region output)
+  spurned : {f : Fault} {st : State} {n : ℕ} {output : Bytes} → Outright f → Spurned region (outcome (Err f) st n region output)
 
 bad_mount : (region script : Bytes) (start at : ℕ) → good region ≡ false → Spurned region (Public.mount region script start at)
 unfolding Public.mount public outright number pick
@@ -57,16 +56,16 @@ bad_mount region script start at g =
 record Stays (A : Plain) (c : Call) (region : Bytes) (t : Turn) : Type 0 where
   step : P.Step A c t.heard A
   shows : Shows A c t.heard
-  unmounted : t.next.newest ≡ none
+  unmounted : t.next.newest ≡ None
   same : t.next.region ≡ region
 
 bad_turn : (A : Plain) (c : Call) (region script : Bytes) → good region ≡ false
-    → Stays A c region (turn c (record { region = region; script = script; newest = none }))
+    → Stays A c region (turn c (record { region = region; script = script; newest = None }))
 unfolding turn made mounting opt state_after refusal_of refusal Shows
 bad_turn A (rescript new at) region script g = record { step = P.unmade; shows = tt; unmounted = refl; same = refl }
 bad_turn A (mount start at) region script g = refused (bad_mount region script start at g)
   where
-    refused : {r : Outcome Answer} → Spurned region r → Stays A (mount start at) region (mounting (record { region = region; script = script; newest = none }) r)
+    refused : {r : Outcome Answer} → Spurned region r → Stays A (mount start at) region (mounting (record { region = region; script = script; newest = None }) r)
     refused (spurned x) = record { step = out_of refl x; shows = tt; unmounted = refl; same = refl }
 bad_turn A (get key output) region script g = record { step = P.unmade; shows = tt; unmounted = refl; same = refl }
 bad_turn A (contains key) region script g = record { step = P.unmade; shows = tt; unmounted = refl; same = refl }
@@ -76,11 +75,11 @@ bad_turn A (apply_batch source) region script g = record { step = P.unmade; show
 bad_turn A (scan_prefix prefix most output) region script g = record { step = P.unmade; shows = tt; unmounted = refl; same = refl }
 
 module _ (A : Plain) where
-  bad_stays : (c : Call) (m : Moment) → m.newest ≡ none → good m.region ≡ false → Stays A c m.region (turn c m)
+  bad_stays : (c : Call) (m : Moment) → m.newest ≡ None → good m.region ≡ false → Stays A c m.region (turn c m)
   bad_stays c m u g = subst (λ (o : Option State). Stays A c m.region (turn c (record { region = m.region; script = m.script; newest = o })))
       (sym u) (bad_turn A c m.region m.script g)
 
-  bad_kept : (run : List Call) (m : Moment) → m.newest ≡ none → good m.region ≡ false → (kept : Kept A run m) × Shown kept
+  bad_kept : (run : List Call) (m : Moment) → m.newest ≡ None → good m.region ≡ false → (kept : Kept A run m) × Shown kept
   unfolding Shown
   bad_kept [] m u g = (end, tt)
   bad_kept (c ∷ run) m u g =
@@ -88,13 +87,13 @@ module _ (A : Plain) where
       let (kept, shown) = bad_kept run (turn c m).next t.unmounted (ap good t.same ∙ g) in
       (then A t.step kept, (t.shows, shown))
 
-  bad_later : (run : List Call) (m : Moment) → m.newest ≡ none → good m.region ≡ false → (later run m).region ≡ m.region
+  bad_later : (run : List Call) (m : Moment) → m.newest ≡ None → good m.region ≡ false → (later run m).region ≡ m.region
   unfolding later
   bad_later [] m u g = refl
   bad_later (c ∷ run) m u g = let t = bad_stays c m u g in bad_later run (turn c m).next t.unmounted (ap good t.same ∙ g) ∙ t.same
 
   -- and nothing is ever mounted on it
-  pub bad_unmounted : (run : List Call) (m : Moment) → m.newest ≡ none → good m.region ≡ false → (later run m).newest ≡ none
+  pub bad_unmounted : (run : List Call) (m : Moment) → m.newest ≡ None → good m.region ≡ false → (later run m).newest ≡ None
   unfolding later
   bad_unmounted [] m u g = u
   bad_unmounted (c ∷ run) m u g = let t = bad_stays c m u g in bad_unmounted run (turn c m).next t.unmounted (ap good t.same ∙ g)
@@ -120,15 +119,15 @@ lent_whole m s run =
 
 -- ---- 13
 
-some_is : {a b : Fault} → some a ≡ some b → a ≡ b
+some_is : {a b : Fault} → Some a ≡ Some b → a ≡ b
 some_is p = cc
 
-same_fault : {g f : Fault} → number g ≢ 13 → some g ≡ some f → number f ≢ 13
+same_fault : {g f : Fault} → number g ≢ 13 → Some g ≡ Some f → number f ≢ 13
 same_fault d e p = d (ap number (some_is e) ∙ p)
 
 -- what the plain map does is no refusal
-no_refusal : {A B : Plain} {c : Call} {h : Heard} → P.Does A c h B → refusal_of h ≡ none
-unfolding refusal_of refusal truth_refusal get_refusal scan_refusal
+no_refusal : {A B : Plain} {c : Call} {h : Heard} → P.Does A c h B → refusal_of h ≡ None
+unfolding refusal_of refusal
 no_refusal P.mounted = refl
 no_refusal (P.get_found x) = refl
 no_refusal (P.get_absent x) = refl
@@ -141,8 +140,8 @@ no_refusal (P.batch_ok x) = refl
 no_refusal (P.scan_finished x) = refl
 
 -- a fault that a step of the plain map allows is none of these
-fault_heard : {A B : Plain} {c : Call} {h : Heard} → P.Step A c h B → (f : Fault) → refusal_of h ≡ some f → number f ≢ 13
-unfolding refusal_of refusal truth_refusal scan_refusal number
+fault_heard : {A B : Plain} {c : Call} {h : Heard} → P.Step A c h B → (f : Fault) → refusal_of h ≡ Some f → number f ≢ 13
+unfolding refusal_of refusal number
 fault_heard (P.ok x) f e = absurd (none≢some (sym (no_refusal x) ∙ e))
 fault_heard (P.committed x) f e = same_fault (λ q. absurd (omega arith)) e
 fault_heard (P.uncertain_in x) f e = same_fault (λ q. absurd (omega arith)) e

@@ -1,7 +1,7 @@
 -- C-11, proved: the numbers in a state are those of its region, from the last mount tried on.
 use mathlib.Core.Path.{◌≡◌, refl, sym, ap, ◌∙◌, subst}
 use mathlib.Core.List.{[]}
-use mathlib.Core.Option.{some}
+use Rattle.std.specs.Prelude.{Some, Ok, Err}
 use Prim.Native.Nat.{ℕ}
 use lib.ListN.{length}
 use Rattle.definition.specs.Tools.{Bytes, pick, opt}
@@ -14,8 +14,7 @@ use Rattle.definition.specs.Public.{Outcome, begin, outcome_of, public}
 use Rattle.definition.specs.Public as Public
 use Rattle.definition.specs.declared.State.{State}
 use Rattle.definition.specs.declared.Fault.{Fault}
-use Rattle.definition.specs.declared.Answer.{Answer}
-use Rattle.definition.specs.declared.Answer.TheVariants.{Ok, Refused}
+use Rattle.definition.specs.Answers.{Answer}
 use Rattle.definition.proofs.Choices.{bool, opt_to}
 use Rattle.reasons.proofs.StandsFor.{none≢some}
 use Rattle.promise.specs.Run.{Source, from_list, from_pool, batched, Call, rescript, mount, get, contains, put, delete, apply_batch, scan_prefix, Moment, made, state_after, mounting, turn}
@@ -39,19 +38,19 @@ public_fits {A} refuse {p} region script st output h e =
 mount_fits : (region script : Bytes) (start at : ℕ) → Fits (Public.mount region script start at)
 unfolding Public.mount
 mount_fits region script start at =
-    opt_to Fits (region_fault start (length region)) (λ e. public_fits Refused region script (Public.unmounted region at) [] (mounts flat) refl) (λ f e. record { is = refl })
+    opt_to Fits (region_fault start (length region)) (λ e. public_fits Err region script (Public.unmounted region at) [] (mounts flat) refl) (λ f e. record { is = refl })
 
 batch_fits : (source : Source) (region script : Bytes) (st : State) → st.space ≡ space_of region → Fits (batched source region script st)
 unfolding batched Public.apply_batch Public.apply_ops
-batch_fits (from_list list) region script st e = public_fits Refused region script st [] (batches_of flat _ _) e
-batch_fits (from_pool ops pool) region script st e = public_fits Refused region script st [] (batches_of flat _ _) e
+batch_fits (from_list list) region script st e = public_fits Err region script st [] (batches_of flat _ _) e
+batch_fits (from_pool ops pool) region script st e = public_fits Err region script st [] (batches_of flat _ _) e
 
 -- ---- a turn
 
 record Follows (m : Moment) : Type 0 where
-  fits : (st : State) → m.newest ≡ some st → st.space ≡ space_of m.region
+  fits : (st : State) → m.newest ≡ Some st → st.space ≡ space_of m.region
 
-newest_is : {region script : Bytes} {s : State} → s.space ≡ space_of region → Follows (record { region = region; script = script; newest = some s })
+newest_is : {region script : Bytes} {s : State} → s.space ≡ space_of region → Follows (record { region = region; script = script; newest = Some s })
 newest_is {s = s} e = record { fits = λ st q. let z : s ≡ st = cc in ap (λ (x : State). x.space) (sym z) ∙ e }
 
 mounted : (script : Bytes) {r : Outcome Answer} → Fits r → Follows (record { region = r.region; script = script; newest = state_after r.answer r.state })
@@ -59,11 +58,11 @@ unfolding state_after
 mounted script {r} f = go r.answer
   where
     go : (a : Answer) → Follows (record { region = r.region; script = script; newest = state_after a r.state })
-    go Ok = newest_is f.is
-    go (Refused x) = record { fits = λ st q. absurd (none≢some q) }
+    go (Ok done) = newest_is f.is
+    go (Err x) = record { fits = λ st q. absurd (none≢some q) }
 
 module _ (region script : Bytes) (st : State) (e : st.space ≡ space_of region) where
-  follows : (c : Call) → Follows (turn c (record { region = region; script = script; newest = some st })).next
+  follows : (c : Call) → Follows (turn c (record { region = region; script = script; newest = Some st })).next
   unfolding turn made opt mounting Public.get Public.contains Public.put Public.delete Public.scan_prefix
   follows (rescript new at) = newest_is e
   follows (mount start at) = mounted script (mount_fits region script start at)

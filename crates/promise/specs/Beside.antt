@@ -1,16 +1,13 @@
 -- What is proved beside the promise. `Outputs`: what stands in the outputs of scans and refused gets, with the same
 -- maps (proofs/Promised). `LentWhole`: the region keeps its length (proofs/Promised).
-use Rattle.std.specs.Prelude.{◌≡◌, false, true, List, [], ◌∷◌, ◌++◌, ℕ, ◌+◌, length, ltb}
-use Rattle.std.proofs.Math.Option.{none}
+use Rattle.std.specs.Prelude.{◌≡◌, false, true, List, [], ◌∷◌, ◌++◌, ℕ, ◌+◌, length, ltb, None, Ok, Err}
 use Rattle.definition.specs.Tools.{Bytes, pick}
 use Rattle.definition.specs.Region.{Item, fetched, record_of, records}
 use Rattle.definition.specs.Codec.{laid}
-use Rattle.definition.specs.Numbers.{get_refusal}
+use Rattle.definition.specs.Numbers.{refusal}
 use Rattle.definition.specs.Scan.{rising, begins, last_of, beyond}
 use Rattle.definition.specs.declared.Fault.{Fault}
-use Rattle.definition.specs.declared.GetAnswer.{GetAnswer}
-use Rattle.definition.specs.declared.GetAnswer.TheVariants as Get
-use Rattle.definition.specs.declared.ScanEnd.{ScanEnd}
+use Rattle.definition.specs.Answers.{GetAnswer, ScanAnswer}
 use Rattle.definition.specs.declared.ScanEnd.TheVariants as End
 use Rattle.definition.specs.declared.Scanned.{Scanned}
 use Rattle.promise.specs.Run.{Call, get, scan_prefix, Heard, nothing, answered, told, got, listed, scanned, Moment, turn, later}
@@ -20,27 +17,27 @@ use Rattle.promise.specs.Promise.{Plain, rises, Kept, end, then, Start, plain_of
 
 -- a refused get leaves its output as it was
 pub data Handed : Call → GetAnswer → Bytes → Type 0 where
-  handed : {c : Call} {a : GetAnswer} {shown : Bytes} → get_refusal a ≡ none → Handed c a shown
-  untouched : {key output : Bytes} {f : Fault} → Handed (get key output) (Get.Refused f) output
+  handed : {c : Call} {a : GetAnswer} {shown : Bytes} → refusal a ≡ None → Handed c a shown
+  untouched : {key output : Bytes} {f : Fault} → Handed (get key output) (Err f) output
 
 -- the first of what the map has under a prefix: it misses nothing up to its own last key (proofs/Listed: so it is the
 -- front of the map's one list)
 pub record FirstOf (prefix : Bytes) (A : Plain) (is : List Item) : Type 0 where
   pub in_order : rises is ≡ true
-  pub complete : (k : Bytes) → beyond rising (last_of none is) k ≡ false
-      → fetched k is ≡ pick (begins prefix k) (A k) none
+  pub complete : (k : Bytes) → beyond rising (last_of None is) k ≡ false
+      → fetched k is ≡ pick (begins prefix k) (A k) None
 
 -- why a scan wrote no more than these: it stopped at the number it was asked for, or the next record did not fit
-unfoldable pub Ended : Plain → Bytes → ℕ → ℕ → List Item → ScanEnd → Type 0
-Ended A prefix most room is End.Finished = Unit {0}
-Ended A prefix most room is End.Stopped = length is ≡ most
-Ended A prefix most room is End.NoRoom =
+unfoldable pub Ended : Plain → Bytes → ℕ → ℕ → List Item → ScanAnswer → Type 0
+Ended A prefix most room is (Ok End.Finished) = Unit {0}
+Ended A prefix most room is (Ok End.Stopped) = length is ≡ most
+Ended A prefix most room is (Ok End.NoRoom) =
     (i : Item) × FirstOf prefix A (is ++ (i ∷ [])) × (ltb room (length (records is) + length (record_of i)) ≡ true)
-Ended A prefix most room is (End.Refused f) = Unit {0}
+Ended A prefix most room is (Err f) = Unit {0}
 
 -- every scan wrote the first of the map's records, however it ended
 pub data Wrote (A : Plain) : Call → Scanned → Bytes → Type 0 where
-  wrote : {prefix output : Bytes} {most : ℕ} {is : List Item} {e : ScanEnd} → FirstOf prefix A is
+  wrote : {prefix output : Bytes} {most : ℕ} {is : List Item} {e : ScanAnswer} → FirstOf prefix A is
       → Ended A prefix most (length output) is e
       → Wrote A (scan_prefix prefix most output) (scanned e is) (laid (records is) output)
 

@@ -1,8 +1,7 @@
 -- Request C-11, "Show the free room on the box's display": "For any state reached by calls from the last mount tried,
 -- on a region nobody else touched, it equals what the walk gives." proofs/TheDisplay proves it, and with no condition
 -- on the region: its image may be bad, and the journal anybody's.
-use Rattle.std.specs.Prelude.{◌≡◌, ℕ}
-use Rattle.std.proofs.Math.Option.{some}
+use Rattle.std.specs.Prelude.{◌≡◌, ℕ, Some}
 use Rattle.definition.specs.Tools.{Bytes}
 use Rattle.definition.specs.Space.{space_of}
 use Rattle.definition.specs.Public as Public
@@ -16,7 +15,7 @@ pub data Reached : Bytes → State → Type 0 where
       → Reached (Public.mount region script start at).region (Public.mount region script start at).state
   -- and then any call, under any script, with the newest state, on the region as the call before it left it
   called : {region : Bytes} {st next : State} {m : Moment} (c : Call) (script : Bytes) → Reached region st
-      → (turn c (record { region = region; script = script; newest = some st })).next ≡ m → m.newest ≡ some next
+      → (turn c (record { region = region; script = script; newest = Some st })).next ≡ m → m.newest ≡ Some next
       → Reached m.region next
 
 -- THE DISPLAY'S QUESTION, which reads only the state, equals what the walk gives.

@@ -1,23 +1,18 @@
 -- How a run goes: any list of calls, new scripts, power cuts and mounts, refused mounts included, each made by the
 -- definition's public call. The region is lent whole to every call, and every call but mount is given the newest
 -- state.
-use Rattle.std.specs.Prelude.{List, [], ◌∷◌, ℕ, length}
-use Rattle.std.proofs.Math.Option.{Option, none, some, map}
+use Rattle.std.specs.Prelude.{List, [], ◌∷◌, ℕ, length, Option, None, Some, option_map, Ok, Err}
 use Rattle.definition.specs.Tools.{Bytes, opt}
 use Rattle.definition.specs.Region.{Item, records}
 use Rattle.definition.specs.Codec.{Op}
 use Rattle.definition.specs.OperationList.{ops_of, ops_over}
-use Rattle.definition.specs.Numbers.{refusal, get_refusal, truth_refusal, scan_refusal}
+use Rattle.definition.specs.Numbers.{refusal}
 use Rattle.definition.specs.Public.{Outcome, state}
 use Rattle.definition.specs.Public as Public
 use Rattle.definition.specs.declared.State.{State}
 use Rattle.definition.specs.declared.BatchOp.{BatchOp}
 use Rattle.definition.specs.declared.Fault.{Fault}
-use Rattle.definition.specs.declared.Answer.{Answer}
-use Rattle.definition.specs.declared.Answer.TheVariants.{Ok, Refused}
-use Rattle.definition.specs.declared.GetAnswer.{GetAnswer}
-use Rattle.definition.specs.declared.TruthAnswer.{TruthAnswer}
-use Rattle.definition.specs.declared.ScanEnd.{ScanEnd}
+use Rattle.definition.specs.Answers.{Answer, GetAnswer, TruthAnswer, ScanAnswer}
 use Rattle.definition.specs.declared.Scanned.{Scanned}
 
 -- where a batch's operations come from: a list of records, or structs that name parts of one byte pool
@@ -59,14 +54,14 @@ pub data Heard : Type 0 where
 
 -- what an answer refuses with
 unfoldable pub refusal_of : Heard → Option Fault
-refusal_of nothing = none
+refusal_of nothing = None
 refusal_of (answered a) = refusal a
-refusal_of (told a) = truth_refusal a
-refusal_of (got a output) = get_refusal a
-refusal_of (listed a output) = scan_refusal a.end
+refusal_of (told a) = refusal a
+refusal_of (got a output) = refusal a
+refusal_of (listed a output) = refusal a.end
 
 -- how a scan ended, and the records that stand
-abbrev pub scanned : ScanEnd → List Item → Scanned
+abbrev pub scanned : ScanAnswer → List Item → Scanned
 scanned e is = record { end = e; count = length is; length = length (records is) }
 
 -- what there is between calls: the region; the script; and the newest state, which is the last mount's or follows
@@ -84,12 +79,12 @@ pub record Turn : Type 0 where
 unfoldable pub made : {A : Type 0} → Moment → (State → Outcome A) → (Outcome A → Heard) → Turn
 made m run hear =
     opt m.newest (record { heard = nothing; next = m })
-    (λ st. let r = run st in record { heard = hear r; next = record { region = r.region; script = m.script; newest = some r.state } })
+    (λ st. let r = run st in record { heard = hear r; next = record { region = r.region; script = m.script; newest = Some r.state } })
 
 -- a refused mount leaves no state
 unfoldable pub state_after : Answer → State → Option State
-state_after Ok st = some st
-state_after (Refused f) st = none
+state_after (Ok done) st = Some st
+state_after (Err f) st = None
 
 unfoldable pub mounting : Moment → Outcome Answer → Turn
 mounting m r =
@@ -97,7 +92,7 @@ mounting m r =
 
 unfoldable pub turn : Call → Moment → Turn
 turn (rescript script at) m =
-    record { heard = nothing; next = record { region = m.region; script = script; newest = map (λ st. state st.health at st.cut st.space) m.newest } }
+    record { heard = nothing; next = record { region = m.region; script = script; newest = option_map (λ st. state st.health at st.cut st.space) m.newest } }
 turn (mount start at) m = mounting m (Public.mount m.region m.script start at)
 turn (get key output) m = made m (λ st. Public.get m.region m.script st key output) (λ r. got r.answer r.output)
 turn (contains key) m = made m (λ st. Public.contains m.region m.script st key) (λ r. told r.answer)

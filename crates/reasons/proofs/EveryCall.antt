@@ -6,9 +6,7 @@ use Rattle.definition.specs.Tools.{Bytes}
 use Rattle.definition.specs.Public.{Outcome, unmounted}
 use Rattle.definition.specs.Public as Public
 use Rattle.definition.specs.declared.State.{State}
-use Rattle.definition.specs.declared.Answer.{Answer}
-use Rattle.definition.specs.declared.GetAnswer.{GetAnswer}
-use Rattle.definition.specs.declared.TruthAnswer.{TruthAnswer}
+use Rattle.definition.specs.Answers.{Answer, GetAnswer, TruthAnswer}
 use Rattle.definition.specs.declared.Scanned.{Scanned}
 use Rattle.definition.specs.declared.BatchOp.{BatchOp}
 

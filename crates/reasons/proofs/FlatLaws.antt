@@ -2,7 +2,7 @@
 use mathlib.Core.Path.{◌≡◌, refl, sym, ap, ◌∙◌}
 use mathlib.Core.Bool.{true, false}
 use mathlib.Core.List.{List, [], ◌∷◌}
-use mathlib.Core.Option.{none, some}
+use Rattle.std.specs.Prelude.{None, Some}
 use Prim.Native.Nat.{ℕ, zero, suc, ◌+◌, ◌*◌, ◌/◌, ◌≤◌, ◌<◌}
 use native.Mathlib.Omega.{arith}
 use lib.ListN.{length}
@@ -22,7 +22,7 @@ use Rattle.reasons.proofs.MapLaws.{Laws}
 
 -- ---- no over-long key
 
-no_long : (k : Bytes) (is : List Item) → AllAllowed is → long_key k ≡ true → fetched k is ≡ none
+no_long : (k : Bytes) (is : List Item) → AllAllowed is → long_key k ≡ true → fetched k is ≡ None
 unfolding fetched long_key
 no_long k [] a l = refl
 no_long k (i ∷ is) a l =
@@ -35,13 +35,13 @@ no_long k (i ∷ is) a l =
 
 -- ---- a journal that stands whole takes fifteen bytes an entry
 
-used_found : (k v : Bytes) (is : List Item) → fetched k is ≡ some v → span_of (item k v) + used (removed k is) ≤ used is
+used_found : (k v : Bytes) (is : List Item) → fetched k is ≡ Some v → span_of (item k v) + used (removed k is) ≤ used is
 unfolding used removed fetched pick
 used_found k v [] e = absurd (none≢some e)
 used_found k v (i ∷ is) e =
     bool (has_key k i)
     (λ t.
-    let z : some i.value ≡ some v = sym (pick_yes _ _ t) ∙ e in
+    let z : Some i.value ≡ Some v = sym (pick_yes _ _ t) ∙ e in
     let w : i.value ≡ v = cc in
     let x : span_of (item k v) ≡ span_of i = sym (same i (key_of k i t) w) in
     rw t (omega arith))
@@ -54,7 +54,7 @@ entry_span : (j : ℕ) (op : Op) → 15 ≤ span_of (item (journal_key j) (encod
 unfolding span_of span size journal_key be16 encode
 entry_span j op = omega arith
 
-journal_room : (n : ℕ) (is : List Item) → ((j : ℕ) → j < n → (op : Op) × (fetched (journal_key j) is ≡ some (encode op))) → n * 15 ≤ used is
+journal_room : (n : ℕ) (is : List Item) → ((j : ℕ) → j < n → (op : Op) × (fetched (journal_key j) is ≡ Some (encode op))) → n * 15 ≤ used is
 journal_room zero is h = omega arith
 journal_room (suc n) is h =
     let (op, e) = h n (omega arith) in
@@ -77,7 +77,7 @@ few len n a b =
     let y : n ≤ len / 15 = omega arith in
     pick_no _ _ (ne_eqb _ _ x) ∙ le-ltb _ _ y
 
-counted : (n : ℕ) (s : Bytes) → n ≤ batch_limit → ((j : ℕ) → j < n → (op : Op) × (look (journal_key j) s ≡ some (encode op))) → too_many (length s) n ≡ false
+counted : (n : ℕ) (s : Bytes) → n ≤ batch_limit → ((j : ℕ) → j < n → (op : Op) × (look (journal_key j) s ≡ Some (encode op))) → too_many (length s) n ≡ false
 unfolding look
 counted n s a h = few (length s) n a (omega (arith, journal_room n (items s) h, used_fits s))
 

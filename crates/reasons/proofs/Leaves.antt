@@ -3,7 +3,7 @@
 use mathlib.Core.Path.{◌≡◌, refl, sym, ap, ◌∙◌}
 use mathlib.Core.Bool.{Bool, true, false}
 use mathlib.Core.List.{List, []}
-use mathlib.Core.Option.{Option, none, some}
+use Rattle.std.specs.Prelude.{Option, None, Some, Ok, Err}
 use Prim.Native.Nat.{ℕ, zero, suc}
 use native.Mathlib.Omega.{arith}
 use lib.ListN.{length, drop}
@@ -28,12 +28,7 @@ use Rattle.definition.specs.declared.Health.{Health}
 use Rattle.definition.specs.declared.Health.TheVariants.{Clean}
 use Rattle.definition.specs.declared.Verdict.{Verdict}
 use Rattle.definition.specs.declared.Verdict.TheVariants.{Pass, Fail}
-use Rattle.definition.specs.declared.Answer.TheVariants as A
-use Rattle.definition.specs.declared.GetAnswer.{GetAnswer}
-use Rattle.definition.specs.declared.GetAnswer.TheVariants as G
-use Rattle.definition.specs.declared.TruthAnswer.TheVariants as T
-use Rattle.definition.specs.declared.ScanEnd.{ScanEnd}
-use Rattle.definition.specs.declared.ScanEnd.TheVariants as E
+use Rattle.definition.specs.Answers.{GetAnswer, ScanAnswer}
 use Rattle.definition.specs.declared.Scanned.{Scanned}
 use Rattle.definition.specs.declared.BatchOp.{BatchOp}
 use Rattle.definition.proofs.Choices.{bool, opt_none}
@@ -48,22 +43,22 @@ bad_public refuse p region script st out b = rw b refl
 
 pub record SevenAlone (region script : Bytes) : Type 0 where
   pub get : (st : State) (key out : Bytes)
-      → Public.get region script st key out ≡ outcome (G.Refused Corrupted) st 0 region out
+      → Public.get region script st key out ≡ outcome (Err Corrupted) st 0 region out
   pub contains : (st : State) (key : Bytes)
-      → Public.contains region script st key ≡ outcome (T.Refused Corrupted) st 0 region []
+      → Public.contains region script st key ≡ outcome (Err Corrupted) st 0 region []
   pub put : (st : State) (key value : Bytes)
-      → Public.put region script st key value ≡ outcome (A.Refused Corrupted) st 0 region []
+      → Public.put region script st key value ≡ outcome (Err Corrupted) st 0 region []
   pub delete : (st : State) (key : Bytes)
-      → Public.delete region script st key ≡ outcome (T.Refused Corrupted) st 0 region []
+      → Public.delete region script st key ≡ outcome (Err Corrupted) st 0 region []
   pub apply_batch : (st : State) (list : Bytes)
-      → Public.apply_batch region script st list ≡ outcome (A.Refused Corrupted) st 0 region []
+      → Public.apply_batch region script st list ≡ outcome (Err Corrupted) st 0 region []
   pub apply_ops : (st : State) (ops : List BatchOp) (pool : Bytes)
-      → Public.apply_ops region script st ops pool ≡ outcome (A.Refused Corrupted) st 0 region []
+      → Public.apply_ops region script st ops pool ≡ outcome (Err Corrupted) st 0 region []
   pub scan_prefix : (st : State) (prefix : Bytes) (most : ℕ) (out : Bytes)
       → Public.scan_prefix region script st prefix most out ≡ outcome
-      (record { end = E.Refused Corrupted; count = 0; length = 0 }) st 0 region out
-  pub mount : (start at : ℕ) → region_fault start (length region) ≡ none
-      → Public.mount region script start at ≡ outcome (A.Refused Corrupted) (unmounted region at) 0 region []
+      (record { end = Err Corrupted; count = 0; length = 0 }) st 0 region out
+  pub mount : (start at : ℕ) → region_fault start (length region) ≡ None
+      → Public.mount region script start at ≡ outcome (Err Corrupted) (unmounted region at) 0 region []
 
 pub bad_image : (region script : Bytes) → good region ≡ false → SevenAlone region script
 unfolding Public.get Public.contains Public.put Public.delete Public.apply_batch Public.apply_ops Public.scan_prefix Public.mount
@@ -105,8 +100,8 @@ returns_if false p q = q
 returns_option : {S A B : Type 0} {P : A → Type 0} (o : Option B) {x : Prog S A} {f : B → Prog S A}
     → Returns P x → ((b : B) → Returns P (f b)) → Returns P (opt o x f)
 unfolding opt
-returns_option none p q = p
-returns_option (some b) p q = q b
+returns_option None p q = p
+returns_option (Some b) p q = q b
 
 returns_gate : {A : Type 0} {P : Said A → Type 0} (refuse : Fault → A) (b : Bool) (h : Health)
     {k : Health → Prog Bytes (Said A)}
@@ -161,30 +156,30 @@ public_leaves {A} refuse P {p} region script st out n e =
 -- output, and so does an absent one
 
 data Hands : GetAnswer → Bytes → Type 0 where
-  found : {n : ℕ} {v : Bytes} → Hands (G.Found n) v
-  absent : Hands G.Absent []
-  refused : {f : Fault} → Hands (G.Refused f) []
+  found : {n : ℕ} {v : Bytes} → Hands (Ok (Some n)) v
+  absent : Hands (Ok None) []
+  refused : {f : Fault} → Hands (Err f) []
 
 get_returns : (key : Bytes) (room : ℕ) (h : Health)
     → Returns (λ r. Hands r.answer r.wrote) (Calls.get flat key room h)
 unfolding Calls.get Calls.get_key hand
 get_returns key room h =
-    returns_gate G.Refused (is_pending h) h (λ e. refused)
+    returns_gate Err (is_pending h) h (λ e. refused)
     (λ h1. returns_if (unstorable key) (by_ret absent)
     (returns_on (fetch flat key)
     (λ o. returns_option o (by_ret absent) (λ v. returns_if (ltb room (length v)) (by_ret refused) (by_ret found)))
     (λ e. by_ret refused)))
 
 pub get_leaves : (region script : Bytes) (st : State) (key out : Bytes) (f : Fault)
-    → (Public.get region script st key out).answer ≡ G.Refused f
+    → (Public.get region script st key out).answer ≡ Err f
     → (Public.get region script st key out).output ≡ out
 unfolding Public.get laid
 get_leaves region script st key out f e =
-    let (wrote, hands, is) = public_leaves G.Refused Hands region script st out (λ g. refused)
+    let (wrote, hands, is) = public_leaves Err Hands region script st out (λ g. refused)
     (get_returns key (length out) st.health) in
     is ∙ ap (λ (w : Bytes). laid w out) (nothing e hands)
   where
-    nothing : {a : GetAnswer} {w : Bytes} → a ≡ G.Refused f → Hands a w → w ≡ []
+    nothing : {a : GetAnswer} {w : Bytes} → a ≡ Err f → Hands a w → w ≡ []
     nothing p found = let z : ◌≡◌ {A = ℕ} 0 1 = cc in absurd (omega arith)
     nothing p absent = refl
     nothing p refused = refl
@@ -193,7 +188,7 @@ get_leaves region script st key out f e =
 -- them is as it was
 
 data Lists : Scanned → Bytes → Type 0 where
-  lists : {e : ScanEnd} (is : List Item)
+  lists : {e : ScanAnswer} (is : List Item)
       → Lists (record { end = e; count = length is; length = length (records is) }) (records is)
 
 abbrev Listing : Said Scanned → Type 0
@@ -222,9 +217,9 @@ module _ (prefix : Bytes) (most room : ℕ) where
   scan_returns : (h : Health) → Returns Listing (scan rising flat prefix most room h)
   unfolding scan scan_from records
   scan_returns h =
-      returns_gate (λ (e : Fault). record { end = E.Refused e; count = 0; length = 0 }) (is_pending h) h (λ e. lists [])
+      returns_gate (λ (e : Fault). record { end = Err e; count = 0; length = 0 }) (is_pending h) h (λ e. lists [])
       (λ h1. returns_if (eqb most 0) (by_ret (lists []))
-      (by_see (λ s. passes_return h1 (suc (length (flat.listed s))) none [])))
+      (by_see (λ s. passes_return h1 (suc (length (flat.listed s))) None [])))
 
 pub record Written (out : Bytes) (r : Outcome Scanned) : Type 0 where
   pub listed : List Item
@@ -238,7 +233,7 @@ pub scan_leaves : (region script : Bytes) (st : State) (prefix : Bytes) (most : 
 unfolding Public.scan_prefix laid
 scan_leaves region script st prefix most out =
     let (wrote, hands, is) =
-    public_leaves (λ (e : Fault). record { end = E.Refused e; count = 0; length = 0 }) Lists region script st out
+    public_leaves (λ (e : Fault). record { end = Err e; count = 0; length = 0 }) Lists region script st out
     (λ f. unfold records in lists [])
     (scan_returns prefix most (length out) st.health) in
     shown _ refl hands is

@@ -8,6 +8,7 @@ use Prim.Native.Nat.{ℕ, ◌+◌, ◌*◌, ◌/◌, ◌%◌, ◌≤◌, ◌<◌
 use native.Mathlib.Nat.{zero-add, mul-le-mul}
 use native.Mathlib.Omega.{arith}
 use lib.ListN.{length}
+use Rattle.std.specs.Prelude.{Ok, Err}
 use Rattle.definition.specs.Tools.{Bytes, pick}
 use Rattle.definition.specs.Region.{Item, good, items, used}
 use Rattle.definition.specs.Script.{word}
@@ -17,7 +18,7 @@ use Rattle.definition.specs.Scan.{rising, matches, window_size, scan_from, scan}
 use Rattle.definition.specs.Public.{begin, outcome_of, public, scan_prefix}
 use Rattle.definition.specs.declared.State.{State}
 use Rattle.definition.specs.declared.Fault.{Fault}
-use Rattle.definition.specs.declared.ScanEnd.TheVariants.{Finished, Refused}
+use Rattle.definition.specs.declared.ScanEnd.TheVariants.{Finished}
 use Rattle.definition.specs.declared.Scanned.{Scanned}
 use Rattle.definition.proofs.Choices.{bool, pick_yes, pick_no}
 use Rattle.definition.proofs.Image.{good_parts, used_fits}
@@ -25,7 +26,7 @@ use Rattle.definition.proofs.Records.{item_holds}
 use Rattle.definition.proofs.Windows.{sift, rising_strict}
 use Rattle.definition.proofs.ScanRuns.{ticks_word, scan_finished}
 
-refused_not : {f : Fault} → Refused f ≡ Finished → ⊥
+refused_not : {f : Fault} → Err f ≡ Ok Finished → ⊥
 refused_not e = let z : ◌≡◌ {A = ℕ} 0 1 = cc in omega arith
 
 -- t records, of which m match
@@ -39,13 +40,13 @@ abbrev pub formula : Bytes → Bytes → ℕ
 formula prefix region = (match_count prefix region / window_size + 1) * (record_count region + 2)
 
 abbrev refuse : Fault → Scanned
-refuse e = record { end = Refused e; count = 0; length = 0 }
+refuse e = record { end = Err e; count = 0; length = 0 }
 
 module _ (region script : Bytes) (st : State) (prefix : Bytes) (most : ℕ) (out : Bytes) where
   -- of what the passes come to: they end as `ok` always, and a fault is no Finished
   passes_counted : good region ≡ true → (r : Result (World Bytes) (Said Scanned))
       → r ≡ exec (scan_from rising flat prefix most (length out) st.health) (world region script (begin st))
-      → (outcome_of refuse st.health out r).answer.end ≡ Finished
+      → (outcome_of refuse st.health out r).answer.end ≡ Ok Finished
       → (outcome_of refuse st.health out r).calls ≡ formula prefix region % word
   unfolding outcome_of
   passes_counted g (ok a w) e f =
@@ -55,7 +56,7 @@ module _ (region script : Bytes) (st : State) (prefix : Bytes) (most : ℕ) (out
       ∙ ticks_word n 0 (omega arith) ∙ ap (λ (x : ℕ). x % word) (zero-add n)
   passes_counted g (bad x w) e f = absurd (refused_not f)
 
-  pub scan_calls : is_pending st.health ≡ false → (scan_prefix region script st prefix most out).answer.end ≡ Finished
+  pub scan_calls : is_pending st.health ≡ false → (scan_prefix region script st prefix most out).answer.end ≡ Ok Finished
       → (scan_prefix region script st prefix most out).calls ≡ formula prefix region % word
   unfolding scan_prefix public pick scan gate
   scan_calls h =
@@ -94,7 +95,7 @@ small region prefix l =
 
 pub scan_calls_exact : (region script : Bytes) (st : State) (prefix : Bytes) (most : ℕ) (out : Bytes)
     → length region < 4294967296
-    → is_pending st.health ≡ false → (scan_prefix region script st prefix most out).answer.end ≡ Finished
+    → is_pending st.health ≡ false → (scan_prefix region script st prefix most out).answer.end ≡ Ok Finished
     → (scan_prefix region script st prefix most out).calls ≡ formula prefix region
 scan_calls_exact region script st prefix most out l h f =
     let s : formula prefix region < word = small region prefix l in scan_calls region script st prefix most out h f

@@ -7,6 +7,7 @@ use Prim.Native.Nat.{ℕ, zero, suc, ◌+◌, ◌-◌, ◌%◌, ◌≤◌, ◌<�
 use native.Mathlib.Omega.{arith}
 use lib.ListN.{length}
 use lib.Dec.{ltb}
+use Rattle.std.specs.Prelude.{Err}
 use borrow.Author.Tests.{ltb-true, ltb-false, lt-ltb, le-ltb}
 use Rattle.definition.specs.Tools.{Bytes, pick}
 use Rattle.definition.specs.Region.{good}
@@ -19,7 +20,6 @@ use Rattle.definition.specs.declared.Space.{Space}
 use Rattle.definition.specs.declared.State.{State}
 use Rattle.definition.specs.declared.Step.{Step}
 use Rattle.definition.specs.declared.Fault.{Fault}
-use Rattle.definition.specs.declared.Answer.TheVariants.{Refused}
 use Rattle.definition.specs.declared.Verdict.{Verdict}
 use Rattle.definition.specs.declared.Verdict.TheVariants.{Pass, Fail}
 use Rattle.definition.proofs.Choices.{bool, true≢false, opt_to}
@@ -150,7 +150,7 @@ tied region script (Every.apply_ops st ops pool) = public_tied _ _ region script
 tied region script (Every.scan_prefix st prefix most out) = public_tied _ _ region script st out
 tied region script (Every.mount start at) =
     opt_to (Tied script (unmounted region at)) (region_fault start (length region))
-    (λ e. public_tied Refused _ region script (unmounted region at) _)
+    (λ e. public_tied Err _ region script (unmounted region at) _)
     (λ f e. unfold steps in record { made = 0; calls = omega arith; at = refl; cut = refl })
 
 -- ---- where so many steps lead while no cut stands

@@ -2,7 +2,7 @@
 // is dropped.
 #![tactic(auto)]
 
-ghost use Rattle.std.specs.Prelude.{◌≡◌, true, suc, ◌+◌, ◌≤◌, ◌<◌, length, take, drop};
+ghost use Rattle.std.specs.Prelude.{◌≡◌, true, suc, ◌≤◌, length, take};
 ghost use Rattle.definition.specs.Region.{good, items};
 ghost use Rattle.definition.specs.Program.{flat};
 ghost use Rattle.definition.specs.Recovery;
@@ -13,43 +13,37 @@ ghost use Rattle.items.specs.Forms.{Ran};
 ghost use Rattle.recovery.specs.Forms.{op_fits};
 
 use codec::OpKind;
-use definition::{Entry, Fault, ITEM_BUFFER_LEN, JournalPart, Marker, Step};
-use items::{FetchAnswer, ItemAnswer, NextAnswer};
-use region::{Next, Spot};
+use definition::{Entry, Fault, ITEM_BUFFER_LEN, JOURNAL_KEY_LEN, JournalPart, Step};
+use items::Failure;
 
 // Iterates all items: a call opens, one is for each, one more says that there is none.
-fn iterate_all(region: &[u8], script: &[u8], step: Step) -> ItemAnswer
+fn iterate_all(region: &[u8], script: &[u8], step: Step) -> Result<Step, Failure>
     requires { good region.now ≡ true }
     ensures { Ran (iterate flat (suc (suc (length (items region.now))))) region.now
         script.now step region.now result }
 {
-    let opened = items::iterate_open(region, script, step);
-    let ItemAnswer::Done(first) = opened else {
-        return opened;
-    };
-    let mut step = first;
+    let mut step = items::iterate_open(region, script, step)?;
     let mut at: usize = 0;
+    // No iterator: each turn is an item call, which may fail and leaves the step for what follows.
     loop {
-        let answer = items::iterate_next(region, script, at, step);
-        let NextAnswer::Met(met, next) = answer else {
-            return items::stopped(answer);
-        };
+        let (met, next) = items::iterate_next(region, script, at, step)?;
         step = next;
-        let Next::Item(_, _, further) = met else {
-            return ItemAnswer::Done(step);
+        let Some(place) = met else {
+            return Ok(step);
         };
-        at = further;
+        at = place.end();
     }
 }
 
 // Bytes of the region, copied so that the region can be written.
-fn copied(region: &[u8], at: usize, len: usize) -> [u8; ITEM_BUFFER_LEN]
-    requires { (at + len ≤ length region.now) × (len ≤ 482) }
-    ensures { take len result ≡ take len (drop at region.now) }
+fn copied<const N: usize>(bytes: &[u8]) -> [u8; N]
+    requires { length bytes.now ≤ N }
+    ensures front { take (length bytes.now) result ≡ bytes.now }
+    ensures long { length result ≡ N }
 {
-    let mut bytes = [0u8; ITEM_BUFFER_LEN];
-    slices::copy_out(region, at, len, &mut bytes);
-    bytes
+    let mut copy = [0u8; N];
+    slices::copy_in(&mut copy, 0, bytes);
+    copy
 }
 
 // ---- one operation of a batch, from its list or from its journal entry
@@ -62,7 +56,7 @@ fn act(
     key: &[u8],
     value: &[u8],
     step: Step,
-) -> ItemAnswer
+) -> Result<Step, Failure>
     requires region_value { good region.old ≡ true }
     requires value_value { op_fits kind key.now value.now ≡ true }
     ensures { Ran (Recovery.act flat (op_as kind key.now value.now)) region.old
@@ -70,7 +64,7 @@ fn act(
 {
     match kind {
         OpKind::Put => items::store(region, script, key, value, step),
-        OpKind::Delete => items::remove(region, script, key, step),
+        OpKind::Delete => items::remove(region, script, key, None, step),
     }
 }
 
@@ -84,24 +78,26 @@ pub fn land(
     key: &[u8],
     value: &[u8],
     step: Step,
-) -> ItemAnswer
+) -> Result<Step, Failure>
     requires region_value { good region.old ≡ true }
     requires value_value { op_fits kind key.now value.now ≡ true }
     ensures { Ran (Recovery.land flat index (op_as kind key.now value.now))
         region.old script.now step region.new result }
 {
-    let acted = act(region, script, kind, key, value, step);
-    let ItemAnswer::Done(next) = acted else {
-        return acted;
-    };
+    let next = act(region, script, kind, key, value, step)?;
     // A write that is done has counted; the journal item mostly stands near the front, and no walk goes on behind it.
-    let held = next.space;
-    let journal_key = codec::journal_key(index);
-    items::remove_counted(region, script, &journal_key, held, next)
+    let held = Some(next.space);
+    items::remove(region, script, &codec::journal_key(index), held, next)
 }
 
 // Does what a journal entry says.
-fn redo_entry(region: &mut [u8], script: &[u8], index: u16, entry: &[u8], step: Step) -> ItemAnswer
+fn redo_entry(
+    region: &mut [u8],
+    script: &[u8],
+    index: u16,
+    entry: &[u8],
+    step: Step,
+) -> Result<Step, Failure>
     requires { good region.old ≡ true }
     ensures { Ran (redo_entry flat index entry.now) region.old script.now step
         region.new result }
@@ -113,124 +109,102 @@ fn redo_entry(region: &mut [u8], script: &[u8], index: u16, entry: &[u8], step: 
         Entry::Delete(_) => land(region, script, index, OpKind::Delete, key, value, step),
         Entry::Corrupt => {
             let part = JournalPart::Entry(index as usize);
-            ItemAnswer::Failed(Fault::JournalCorrupted(part), step)
+            let fault = Fault::JournalCorrupted(part);
+            Err(Failure { fault, step })
         }
     }
 }
 
 // One journal entry, if it is there: one that is not there was done before.
-fn redo(region: &mut [u8], script: &[u8], index: u16, step: Step) -> ItemAnswer
+fn redo(region: &mut [u8], script: &[u8], index: u16, step: Step) -> Result<Step, Failure>
     requires { good region.old ≡ true }
     ensures { Ran (Recovery.redo flat index) region.old script.now step
         region.new result }
 {
     let journal_key = codec::journal_key(index);
-    let fetched = items::fetch(region, script, &journal_key, step);
-    let FetchAnswer::Got(spot, next) = fetched else {
-        return items::unfetched(fetched);
+    let (fetched, next) = items::fetch(region, script, &journal_key, step)?;
+    let Some(entry) = fetched else {
+        return Ok(next);
     };
-    let Spot::At(at, len) = spot else {
-        return ItemAnswer::Done(next);
-    };
-    let entry = copied(region, at, len);
+    let len = entry.len();
+    let entry: [u8; ITEM_BUFFER_LEN] = copied(entry);
     redo_entry(region, script, index, &entry[..len], next)
 }
 
 // The whole journal in its order, and the marker last. The marker's count says how far to go: a replay that ended at
 // the first entry it missed would take a batch that was cut half way for done.
-fn replay(region: &mut [u8], script: &[u8], count: u16, step: Step) -> ItemAnswer
+fn replay(region: &mut [u8], script: &[u8], count: u16, step: Step) -> Result<Step, Failure>
     requires { good region.old ≡ true }
     ensures { Ran (Recovery.replay flat count 0) region.old script.now step
         region.new result }
 {
     let mut step = step;
-    let mut index: u16 = 0;
-    while index < count {
-        let redone = redo(region, script, index, step);
-        let ItemAnswer::Done(next) = redone else {
-            return redone;
-        };
-        step = next;
-        index += 1;
+    for index in 0..count {
+        step = redo(region, script, index, step)?;
     }
-    let marker_key = codec::marker_key();
-    items::remove(region, script, &marker_key, step)
+    items::remove(region, script, &codec::marker_key(), None, step)
 }
 
 // Drops the first journal item left, until there is none.
-fn drop_each(region: &mut [u8], script: &[u8], step: Step) -> ItemAnswer
+fn drop_each(region: &mut [u8], script: &[u8], step: Step) -> Result<Step, Failure>
     requires { good region.old ≡ true }
     ensures { Ran (drop_each flat (journal_keys (items region.old))) region.old
         script.now step region.new result }
 {
     let mut held = region::space(region);
     let mut step = step;
-    loop {
-        let spot = region::first_journal(region);
-        let Spot::At(at, len) = spot else {
-            return ItemAnswer::Done(step);
-        };
-        let key = copied(region, at, len);
-        let removed = items::remove_counted(region, script, &key[..len], held, step);
-        let ItemAnswer::Done(next) = removed else {
-            return removed;
-        };
-        held = next.space;
-        step = next;
+    // No iterator over the keys: each turn writes the region that they stand in.
+    while let Some(key) = region::first_journal(region) {
+        let key: [u8; JOURNAL_KEY_LEN] = copied(key);
+        step = items::remove(region, script, &key, Some(held), step)?;
+        held = step.space;
     }
+    Ok(step)
 }
 
 // What is left of a journal that was not committed.
-fn discard(region: &mut [u8], script: &[u8], step: Step) -> ItemAnswer
+fn discard(region: &mut [u8], script: &[u8], step: Step) -> Result<Step, Failure>
     requires { good region.old ≡ true }
     ensures { Ran (Recovery.discard flat) region.old script.now step region.new
         result }
 {
-    let iterated = iterate_all(region, script, step);
-    let ItemAnswer::Done(next) = iterated else {
-        return iterated;
-    };
+    let next = iterate_all(region, script, step)?;
     drop_each(region, script, next)
 }
 
 // Recovery by the marker that was read.
-fn recover_by(region: &mut [u8], script: &[u8], marker: Marker, step: Step) -> ItemAnswer
+fn recover_by(
+    region: &mut [u8],
+    script: &[u8],
+    marker: Option<usize>,
+    step: Step,
+) -> Result<Step, Failure>
     requires region_value { good region.old ≡ true }
     requires short { Short marker }
     ensures { Ran (recover_by flat marker) region.old script.now step region.new
         result }
 {
-    let Marker::Count(count) = marker else {
-        let discarded = discard(region, script, step);
-        let ItemAnswer::Done(next) = discarded else {
-            return discarded;
-        };
-        let marker_key = codec::marker_key();
-        return items::remove(region, script, &marker_key, next);
+    let Some(count) = marker else {
+        let next = discard(region, script, step)?;
+        return items::remove(region, script, &codec::marker_key(), None, next);
     };
     if marks::too_many(region.len(), count) {
-        return ItemAnswer::Failed(
-            Fault::JournalCorrupted(JournalPart::MarkerCount(count)),
-            step,
-        );
+        let fault = Fault::JournalCorrupted(JournalPart::MarkerCount(count));
+        return Err(Failure { fault, step });
     }
     replay(region, script, count as u16, step)
 }
 
 // Recovers: by the marker, if there is one.
-pub fn recover(region: &mut [u8], script: &[u8], step: Step) -> ItemAnswer
+pub fn recover(region: &mut [u8], script: &[u8], step: Step) -> Result<Step, Failure>
     requires { good region.old ≡ true }
     ensures { Ran (Recovery.recover flat) region.old script.now step region.new
         result }
 {
-    let marker_key = codec::marker_key();
-    let fetched = items::fetch(region, script, &marker_key, step);
-    let FetchAnswer::Got(spot, next) = fetched else {
-        return items::unfetched(fetched);
-    };
-    let Spot::At(at, len) = spot else {
+    let (fetched, next) = items::fetch(region, script, &codec::marker_key(), step)?;
+    let Some(marker) = fetched else {
         return discard(region, script, next);
     };
-    let marker = codec::decode_marker(slices::part(region, at, len));
+    let marker = codec::decode_marker(marker);
     recover_by(region, script, marker, next)
 }

@@ -17,7 +17,8 @@ use Rattle.definition.proofs.Image.{parsed, records_append}
 use Rattle.prints.specs.Prints.{hash_of, class_of, table_size, noted, Notes}
 use Rattle.prints.proofs.Hashes.{class_below}
 use Rattle.region.specs.Places.{key_at, value_at, Met, place_of}
-use Rattle.region.specs.declared.Found.TheVariants as F
+use Rattle.std.specs.Prelude.{Option, Some, None, is_some}
+use Rattle.region.specs.declared.Place.{Place}
 use Rattle.region.specs.Classes.{onto, back, NewIn, Tried}
 use Rattle.region.proofs.Walks.{item_there, met_whole, met_span, met_key_length, met_value_length}
 use Rattle.region.proofs.Finding.{split, nowhere}
@@ -177,8 +178,10 @@ module _ {b k t : Bytes} {h q c n : ℕ} (eh : h ≡ hash_of k) (eq : q ≡ clas
     tried_first e =
         tried (λ r w. absurd (true≢false w (ap (noted t) (sym eh) ∙ sym p.answer ∙ not-true y e))) (λ f. absurd (true≢false refl f))
 
-    pub tried_gone : place_of 0 k (items b) ≡ F.Nothing → Tried b k t c n u true
-    tried_gone e = tried (λ r w. nowhere k (items b) 0 e) (λ f. absurd (true≢false refl f))
-
-    pub tried_found : (a x z : ℕ) → place_of 0 k (items b) ≡ F.At a x z → Tried b k t c n u false
-    tried_found a x z e = tried (λ r w. absurd (true≢false r refl)) (λ f. (split k (items b) 0 a x z e).there)
+    -- the key is looked for among those before it
+    pub tried_found : {f : Option Place} {r : Bool} → f ≡ place_of 0 k (items b) → is_some f ≡ not r → Tried b k t c n u r
+    tried_found {f = Some q} {r = true} e er = absurd (true≢false refl er)
+    tried_found {f = Some q} {r = false} e er =
+        tried (λ y w. absurd (true≢false y refl)) (λ z. (split k (items b) 0 q (sym e)).there)
+    tried_found {f = None} {r = true} e er = tried (λ y w. nowhere k (items b) 0 (sym e)) (λ z. absurd (true≢false refl z))
+    tried_found {f = None} {r = false} e er = absurd (true≢false er refl)

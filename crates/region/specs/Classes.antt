@@ -3,12 +3,6 @@ use Rattle.std.specs.Prelude.{◌≡◌, Bool, true, false, List, [], ◌∷◌,
 use Rattle.definition.specs.Tools.{Bytes}
 use Rattle.definition.specs.Region.{Item, has, distinct, items}
 use Rattle.prints.specs.Prints.{hash_of, class_of, noted}
-use Rattle.region.specs.declared.Swept.{Swept}
-use Rattle.region.specs.declared.Swept.TheVariants as W
-
-unfoldable pub is_swept : Swept → Bool
-is_swept (W.Whole n) = true
-is_swept W.Broken = false
 
 -- ---- the items that a walk has passed, the last one first
 

@@ -3,189 +3,187 @@
 // this crate knows a byte of a record, but for the lengths and heads that it passes on from `records`.
 #![tactic(auto)]
 
-ghost use Rattle.std.specs.Prelude.{◌≡◌, true, ◌+◌, ◌-◌, ◌≤◌, leb, length, drop};
+ghost use Rattle.std.specs.Prelude.{◌≡◌, true, ◌+◌, ◌-◌, ◌^◌, ◌≤◌, ◌<◌, leb, length, drop, option_map, is_some, IfSome};
+ghost use Rattle.std.specs.Iterator.{at_most};
 ghost use Rattle.definition.specs.Region;
-ghost use Rattle.definition.specs.Region.{item, distinct, allowed, items, whole, good};
+ghost use Rattle.definition.specs.Region.{item, distinct, allowed, items, whole, good, look};
 ghost use Rattle.definition.specs.Space.{space_of};
-ghost use Rattle.definition.specs.Recovery.{is_journal};
-ghost use Rattle.region.specs.Places.{Visit, place_of, Short, span_found, key_at, value_at, Fetched, FirstJournal};
+ghost use Rattle.definition.specs.Recovery.{is_journal, journal_keys};
+ghost use Rattle.region.specs.Places.{end_of, Visit, Goes, Trusts, place_of, Short, span_found, key_at, value_at, first_of};
 ghost use Rattle.prints.specs.Prints.{most_classes, table_size};
-ghost use Rattle.region.specs.Classes.{is_swept, Tried, DistinctIn};
-ghost use Rattle.region.specs.Changes.{Counted, Surveyed, Removes, Stores};
+ghost use Rattle.region.specs.Classes.{Tried, DistinctIn};
+ghost use Rattle.region.specs.Changes.{Surveyed, Removes, Stores};
 
-use definition::{ERASED, HEAD_SIZE, ITEM_KIND, KEY_LEN_AT, Space, VALUE_LEN_AT};
+use definition::{
+    ERASED, HEAD_SIZE, ITEM_KIND, JOURNAL_KEY_LEN, JOURNAL_TAG, KEY_LEN_AT, RESERVED_PREFIX, Space,
+    VALUE_LEN_AT,
+};
 use prints::TABLE;
 pub use records::{agrees, header, is_allowed, put_record, size, span};
 
 // What stands where a key's length would, behind the records.
 const NO_KEY_LEN: usize = ERASED as usize;
 
-// What a walk meets at a place: a record's key length, value length and the next place; or the walk is over.
+// Where a record stands, and how many bytes its key and its value have.
 #[derive(Clone, Copy)]
-pub enum Next {
-    Item(usize, usize, usize),
-    Nothing,
+pub struct Place {
+    pub at: usize,
+    pub klen: usize,
+    pub vlen: usize,
 }
 
-// Where the record with a key stands, its key length and its value length.
-#[derive(Clone, Copy)]
-pub enum Found {
-    At(usize, usize, usize),
-    Nothing,
-}
+impl Place {
+    // The place behind the record.
+    pub fn end(self) -> usize
+        requires lengths { (self.klen < 256) × (self.vlen < 65536) }
+        requires fits { end_of self < 2 ^ 64 }
+        ensures { result ≡ end_of self }
+    {
+        self.at + span(self.klen, self.vlen)
+    }
 
-// What stands behind the records of a region: only 0xFF, and then how many records there are; or something else.
-#[derive(Clone, Copy)]
-pub enum Swept {
-    Whole(usize),
-    Broken,
+    // The record's key.
+    pub fn key(self, region: &[u8]) -> &[u8]
+        requires { self.at + Region.head_size + self.klen ≤ length region.now }
+        ensures { result.now ≡ key_at region.now self.at self.klen }
+    {
+        slices::part(region, self.at + HEAD_SIZE, self.klen)
+    }
+
+    // The record's value.
+    pub fn value(self, region: &[u8]) -> &[u8]
+        requires { self.at + Region.head_size + self.klen + self.vlen ≤ length region.now }
+        ensures { result.now ≡ value_at region.now self.at self.klen self.vlen }
+    {
+        slices::part(region, self.at + HEAD_SIZE + self.klen, self.vlen)
+    }
 }
 
 // What one walk has seen: what the region holds, and where the record with a key stands.
 #[derive(Clone, Copy)]
 pub struct Seen {
     pub space: Space,
-    pub found: Found,
-}
-
-// Where bytes stand, and how many.
-#[derive(Clone, Copy)]
-pub enum Spot {
-    At(usize, usize),
-    Nothing,
-}
-
-// What a store answers: what the region then holds, or that there was no room.
-#[derive(Clone, Copy)]
-pub enum Stored {
-    Done(Space),
-    Full,
+    pub found: Option<Place>,
 }
 
 // ---- what stands at a place
 
-// How many bytes stand from a place on.
-fn left_from(region: &[u8], at: usize) -> usize
-    ensures { result ≡ length region.now - at }
-{
-    if at < region.len() {
-        region.len() - at
-    } else {
-        0
-    }
-}
-
-// A walk over the items starts at 0, and goes from each place to the next until there is nothing. A record is told by
-// its bytes: they are compared with those that its lengths give. What else may stand there is no matter here, so that
-// a walk's end costs no look at the tail.
-pub fn next_item(region: &[u8], at: usize) -> Next
+// The record at a place, if there is one. A record is told by its bytes: they are compared with those that its lengths
+// give. What else may stand there is no matter here, so that a walk's end costs no look at the tail.
+pub fn next_item(region: &[u8], at: usize) -> Option<Place>
     ensures { Visit region.now at result }
 {
-    let left = left_from(region, at);
+    let left = region.len().saturating_sub(at);
     if left < HEAD_SIZE {
-        return Next::Nothing;
+        return None;
     }
     let klen = slices::wide(region[at + KEY_LEN_AT]);
     let vlen = slices::le16_at(region, at + VALUE_LEN_AT);
     if !is_allowed(klen, vlen) {
-        return Next::Nothing;
+        return None;
     }
     if !agrees(region, at, ITEM_KIND, klen, vlen) {
-        return Next::Nothing;
+        return None;
     }
-    let taken = span(klen, vlen);
-    if left < taken {
-        return Next::Nothing;
+    if left < span(klen, vlen) {
+        return None;
     }
-    let next = at + taken;
-    Next::Item(klen, vlen, next)
+    Some(Place { at, klen, vlen })
 }
 
 // The same where the region is known to be whole from there on: no record is compared with itself again. 0xFF is no
 // key's length, so that one byte tells a record from the tail.
-fn next_whole(region: &[u8], at: usize) -> Next
+fn next_whole(region: &[u8], at: usize) -> Option<Place>
     requires { whole (drop at region.now) ≡ true }
     ensures { Visit region.now at result }
 {
-    let left = left_from(region, at);
+    let left = region.len().saturating_sub(at);
     if left < HEAD_SIZE {
-        return Next::Nothing;
+        return None;
     }
     let klen = slices::wide(region[at + KEY_LEN_AT]);
     if klen == NO_KEY_LEN {
-        return Next::Nothing;
+        return None;
     }
     let vlen = slices::le16_at(region, at + VALUE_LEN_AT);
-    let taken = span(klen, vlen);
-    let next = at + taken;
-    Next::Item(klen, vlen, next)
+    Some(Place { at, klen, vlen })
 }
 
-// The key of the record at a place.
-pub fn key_at(region: &[u8], at: usize, klen: usize) -> &[u8]
-    requires { at + Region.head_size + klen ≤ length region.now }
-    ensures { result.now ≡ key_at region.now at klen }
-{
-    slices::part(region, at + HEAD_SIZE, klen)
+// ---- a walk
+
+// The records from a place on, in their order. WHOLE says that the region is known to be whole from there on.
+#[derive(Clone, Copy)]
+pub struct Records<'a, const WHOLE: bool> {
+    region: &'a [u8],
+    at: usize,
 }
 
-// The value of the record at a place.
-pub fn value_at(region: &[u8], at: usize, klen: usize, vlen: usize) -> &[u8]
-    requires { at + Region.head_size + klen + vlen ≤ length region.now }
-    ensures { result.now ≡ value_at region.now at klen vlen }
+impl<'a, const WHOLE: bool> Iterator for Records<'a, WHOLE> {
+    type Item = Place;
+
+    ghost can_next = { λ s. Trusts WHOLE s.region.now s.at };
+
+    ghost next_gives = { λ s r t. Goes s.region.now s.at r t.at × (t.region.now ≡ s.region.now) };
+
+    ghost remaining = { λ s. at_most (length s.region.now - s.at) };
+
+    fn next(&mut self) -> Option<Place> {
+        let met = if WHOLE {
+            next_whole(self.region, self.at)
+        } else {
+            next_item(self.region, self.at)
+        };
+        let place = met?;
+        self.at = place.end();
+        Some(place)
+    }
+}
+
+// The records from the front, up to the first place that has none.
+pub fn records_of<const WHOLE: bool>(region: &[u8]) -> Records<'_, WHOLE>
+    ensures { (result.region.now ≡ region.now) × (result.at ≡ 0) }
 {
-    slices::part(region, at + HEAD_SIZE + klen, vlen)
+    Records { region, at: 0 }
 }
 
 // ---- the item with a key
 
 // Where the record with a key stands.
-pub fn find(region: &[u8], key: &[u8]) -> Found
+pub fn find(region: &[u8], key: &[u8]) -> Option<Place>
     requires { whole region.now ≡ true }
     ensures { result ≡ place_of 0 key.now (items region.now) }
 {
-    let mut at: usize = 0;
-    loop {
-        let Next::Item(klen, vlen, next) = next_whole(region, at) else {
-            return Found::Nothing;
-        };
-        if slices::same(key_at(region, at, klen), key) {
-            return Found::At(at, klen, vlen);
+    for place in records_of::<true>(region) {
+        if slices::same(place.key(region), key) {
+            return Some(place);
         }
-        at = next;
     }
+    None
 }
 
-// Where the value under a key stands.
-pub fn fetch(region: &[u8], key: &[u8]) -> Spot
+// The value under a key.
+pub fn fetch<'a>(region: &'a [u8], key: &[u8]) -> Option<&'a [u8]>
     requires { good region.now ≡ true }
-    ensures { Fetched region.now key.now result }
+    ensures value { option_map (λ v. v.now) result ≡ look key.now region.now }
+    ensures short { IfSome result (λ v. length v.now ≤ 481) }
 {
-    let Found::At(at, klen, vlen) = find(region, key) else {
-        return Spot::Nothing;
-    };
-    let from = at + HEAD_SIZE + klen;
-    Spot::At(from, vlen)
+    let place = find(region, key)?;
+    Some(place.value(region))
 }
 
 // ---- the image test
 
-// Whether only 0xFF follows the records. How many they are is a hint for what follows, and no contract says it.
-fn sweep(region: &[u8]) -> Swept
-    ensures { is_swept result ≡ whole region.now }
+// Whether only 0xFF follows the records; then about how many they are, a hint that no contract says.
+fn sweep(region: &[u8]) -> Option<usize>
+    ensures { is_some result ≡ whole region.now }
 {
-    let mut at: usize = 0;
+    let mut end: usize = 0;
     let mut n: usize = 0;
-    loop {
-        let Next::Item(_, _, next) = next_item(region, at) else {
-            if records::is_blank_from(region, at) {
-                return Swept::Whole(n);
-            }
-            return Swept::Broken;
-        };
-        at = next;
+    for place in records_of::<false>(region) {
+        end = place.end();
         n += 1;
     }
+    records::is_blank_from(region, end).then_some(n)
 }
 
 // Whether a key is none of those before it, if it is of this class.
@@ -202,10 +200,7 @@ fn is_new(before: &[u8], key: &[u8], table: &mut [u8; TABLE], class: usize, clas
     if !prints::note(table, h) {
         return true;
     }
-    let Found::Nothing = find(before, key) else {
-        return false;
-    };
-    true
+    find(before, key).is_none()
 }
 
 // Whether no key of a class occurs twice.
@@ -214,22 +209,13 @@ fn is_distinct_in(region: &[u8], class: usize, classes: usize) -> bool
     ensures { DistinctIn region.now class classes result }
 {
     let mut table: [u8; TABLE] = [0; TABLE];
-    let mut at: usize = 0;
-    loop {
-        let Next::Item(klen, _, next) = next_whole(region, at) else {
-            return true;
-        };
-        if !is_new(
-            slices::part(region, 0, at),
-            key_at(region, at, klen),
-            &mut table,
-            class,
-            classes,
-        ) {
+    for place in records_of::<true>(region) {
+        let before = slices::part(region, 0, place.at);
+        if !is_new(before, place.key(region), &mut table, class, classes) {
             return false;
         }
-        at = next;
     }
+    true
 }
 
 // Whether no key occurs twice, of about so many: a walk for each class, of which there are so many that a table has
@@ -239,12 +225,10 @@ fn is_distinct(region: &[u8], keys: usize) -> bool
     ensures { result ≡ distinct (items region.now) }
 {
     let classes = prints::classes(keys);
-    let mut class: usize = 0;
-    while class < classes {
+    for class in 0..classes {
         if !is_distinct_in(region, class, classes) {
             return false;
         }
-        class += 1;
     }
     true
 }
@@ -254,10 +238,10 @@ fn is_distinct(region: &[u8], keys: usize) -> bool
 pub fn is_good(region: &[u8]) -> bool
     ensures { result ≡ good region.now }
 {
-    let Swept::Whole(keys) = sweep(region) else {
-        return false;
-    };
-    is_distinct(region, keys)
+    match sweep(region) {
+        Some(keys) => is_distinct(region, keys),
+        None => false,
+    }
 }
 
 // ---- counting
@@ -266,67 +250,36 @@ pub fn is_good(region: &[u8]) -> bool
 pub fn used(region: &[u8]) -> usize
     ensures { (result ≡ Region.used (items region.now)) × (result ≤ length region.now) }
 {
-    let mut at: usize = 0;
-    loop {
-        let Next::Item(_, _, next) = next_item(region, at) else {
-            return at;
-        };
-        at = next;
+    let mut end: usize = 0;
+    for place in records_of::<false>(region) {
+        end = place.end();
     }
+    end
 }
 
 // The number of records.
 pub fn count(region: &[u8]) -> usize
     ensures { result ≡ length (items region.now) }
 {
-    let mut at: usize = 0;
     let mut n: usize = 0;
-    loop {
-        let Next::Item(_, _, next) = next_item(region, at) else {
-            return n;
-        };
-        at = next;
+    for _ in records_of::<false>(region) {
         n += 1;
     }
+    n
 }
 
 // What the region holds, in one walk.
 pub fn space(region: &[u8]) -> Space
     ensures { result ≡ space_of region.now }
 {
-    let mut at: usize = 0;
+    let mut used: usize = 0;
     let mut takes: usize = 0;
-    loop {
-        let Next::Item(klen, _, next) = next_item(region, at) else {
-            return Space {
-                used: at,
-                free: region.len() - at,
-                takes: takes,
-            };
-        };
-        takes += marks::user_count(key_at(region, at, klen));
-        at = next;
+    for place in records_of::<false>(region) {
+        used = place.end();
+        takes += marks::user_count(place.key(region));
     }
-}
-
-// The same, where a walk over a whole region has come to a place and has counted so many user records.
-fn space_from(region: &[u8], from: usize, counted: usize) -> Space
-    requires { Counted region.now from counted }
-    ensures { result ≡ space_of region.now }
-{
-    let mut at = from;
-    let mut takes = counted;
-    loop {
-        let Next::Item(klen, _, next) = next_whole(region, at) else {
-            return Space {
-                used: at,
-                free: region.len() - at,
-                takes: takes,
-            };
-        };
-        takes += marks::user_count(key_at(region, at, klen));
-        at = next;
-    }
+    let free = region.len() - used;
+    Space { used, free, takes }
 }
 
 // What the region holds, and where the record with a key stands: one walk for both.
@@ -334,25 +287,20 @@ fn survey(region: &[u8], key: &[u8]) -> Seen
     requires { whole region.now ≡ true }
     ensures { Surveyed region.now key.now result }
 {
-    let mut at: usize = 0;
+    let mut used: usize = 0;
     let mut takes: usize = 0;
-    loop {
-        let Next::Item(klen, vlen, next) = next_whole(region, at) else {
-            let space = space_from(region, at, takes);
-            return Seen {
-                space: space,
-                found: Found::Nothing,
-            };
-        };
-        takes += marks::user_count(key_at(region, at, klen));
-        if slices::same(key_at(region, at, klen), key) {
-            let space = space_from(region, next, takes);
-            return Seen {
-                space: space,
-                found: Found::At(at, klen, vlen),
-            };
+    let mut found = None;
+    for place in records_of::<true>(region) {
+        used = place.end();
+        takes += marks::user_count(place.key(region));
+        if found.is_none() && slices::same(place.key(region), key) {
+            found = Some(place);
         }
-        at = next;
+    }
+    let free = region.len() - used;
+    Seen {
+        space: Space { used, free, takes },
+        found,
     }
 }
 
@@ -362,44 +310,41 @@ fn survey(region: &[u8], key: &[u8]) -> Seen
 pub fn is_journal(key: &[u8]) -> bool
     ensures { result ≡ is_journal key.now }
 {
-    if key.len() != 4 {
+    if key.len() != JOURNAL_KEY_LEN {
         return false;
     }
-    if key[0] != 0 {
+    if key[0] != RESERVED_PREFIX {
         return false;
     }
-    key[1] == 0x6a
+    key[1] == JOURNAL_TAG
 }
 
-// Where the first journal key stands.
-pub fn first_journal(region: &[u8]) -> Spot
+// The first journal key.
+pub fn first_journal(region: &[u8]) -> Option<&[u8]>
     requires { good region.now ≡ true }
-    ensures { FirstJournal region.now result }
+    ensures key { option_map (λ k. k.now) result ≡ first_of (journal_keys (items region.now)) }
+    ensures four { IfSome result (λ k. length k.now ≡ 4) }
 {
-    let mut at: usize = 0;
-    loop {
-        let Next::Item(klen, _, next) = next_whole(region, at) else {
-            return Spot::Nothing;
-        };
-        if is_journal(key_at(region, at, klen)) {
-            let from = at + HEAD_SIZE;
-            return Spot::At(from, klen);
+    for place in records_of::<true>(region) {
+        let key = place.key(region);
+        if is_journal(key) {
+            return Some(key);
         }
-        at = next;
     }
+    None
 }
 
 // ---- the item calls that write
 
 // The room of the record that was looked for, or 0 if there is none.
-fn old_span(found: Found) -> usize
+fn old_span(found: Option<Place>) -> usize
     requires { Short found }
     ensures { result ≡ span_found found }
 {
-    let Found::At(_, klen, vlen) = found else {
-        return 0;
-    };
-    span(klen, vlen)
+    match found {
+        Some(place) => span(place.klen, place.vlen),
+        None => 0,
+    }
 }
 
 // The room rule, in one place: "Full exactly if used bytes, less the old record, plus the new one exceed L." No sum,
@@ -414,18 +359,18 @@ fn has_room(used: usize, old: usize, new: usize, len: usize) -> bool
 
 // Drops the record that was found under a key and closes the gap; none found changes nothing. What the region then
 // holds is reckoned from what it held, so that no walk is made for it.
-fn drop_found(region: &mut [u8], key: &[u8], before: Space, found: Found) -> Space
+fn drop_found(region: &mut [u8], key: &[u8], before: Space, found: Option<Place>) -> Space
     requires region_value { good region.old ≡ true }
     requires before_value { before ≡ space_of region.old }
     requires found_value { found ≡ place_of 0 key.now (items region.old) }
     ensures { Removes key.now region.old region.new result }
 {
-    let Found::At(at, klen, vlen) = found else {
+    let Some(place) = found else {
         return before;
     };
-    let old = span(klen, vlen);
+    let old = span(place.klen, place.vlen);
     let used = before.used;
-    records::cut(region, at, old, used);
+    records::cut(region, place.at, old, used);
     let end = used - old;
     Space {
         used: end,
@@ -434,48 +379,43 @@ fn drop_found(region: &mut [u8], key: &[u8], before: Space, found: Found) -> Spa
     }
 }
 
-// Drops the record with a key, and says what the region then holds.
-pub fn remove(region: &mut [u8], key: &[u8]) -> Space
-    requires { good region.old ≡ true }
-    ensures { Removes key.now region.old region.new result }
-{
-    let seen = survey(region, key);
-    let before = seen.space;
-    let found = seen.found;
-    drop_found(region, key, before, found)
-}
-
-// The same where it is known what the region holds: the walk ends at the record.
-pub fn remove_counted(region: &mut [u8], key: &[u8], before: Space) -> Space
+// Drops the record with a key, and says what the region then holds. Where it is known what it held, the walk ends at
+// the record.
+pub fn remove(region: &mut [u8], key: &[u8], held: Option<Space>) -> Space
     requires region_value { good region.old ≡ true }
-    requires before_value { before ≡ space_of region.old }
+    requires held_value { IfSome held (λ n. n ≡ space_of region.old) }
     ensures { Removes key.now region.old region.new result }
 {
-    let found = find(region, key);
-    drop_found(region, key, before, found)
+    let Seen { space, found } = match held {
+        Some(space) => Seen {
+            space,
+            found: find(region, key),
+        },
+        None => survey(region, key),
+    };
+    drop_found(region, key, space, found)
 }
 
-// Drops the record with the key, closes the gap and appends the new one, if there is room for it then.
-pub fn store(region: &mut [u8], key: &[u8], value: &[u8]) -> Stored
+// Drops the record with the key, closes the gap and appends the new one, if there is room for it then; and says what
+// the region then holds.
+pub fn store(region: &mut [u8], key: &[u8], value: &[u8]) -> Option<Space>
     requires region_value { good region.old ≡ true }
     requires value_value { allowed (length key.now) (length value.now) ≡ true }
     ensures { Stores (item key.now value.now) region.old region.new
         result }
 {
-    let seen = survey(region, key);
-    let before = seen.space;
-    let found = seen.found;
+    let Seen { space, found } = survey(region, key);
     let old = old_span(found);
     let new = span(key.len(), value.len());
-    if !has_room(before.used, old, new, region.len()) {
-        return Stored::Full;
+    if !has_room(space.used, old, new, region.len()) {
+        return None;
     }
-    let kept = drop_found(region, key, before, found);
+    let kept = drop_found(region, key, space, found);
     let end = kept.used;
     put_record(region, end, key, value);
     let used = end + new;
-    Stored::Done(Space {
-        used: used,
+    Some(Space {
+        used,
         free: region.len() - used,
         takes: kept.takes + marks::user_count(key),
     })

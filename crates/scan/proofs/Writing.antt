@@ -2,7 +2,7 @@
 use mathlib.Core.Path.{◌≡◌, refl, sym, ap, ap₂, ◌∙◌, subst}
 use mathlib.Core.Bool.{Bool, true, false}
 use mathlib.Core.List.{List, [], ◌∷◌, ◌++◌, append_assoc, append-nil}
-use mathlib.Core.Option.{Option, none}
+use Rattle.std.specs.Prelude.{Option, None, Ok, Err, IfOk}
 use Prim.Native.Nat.{ℕ, suc, ◌+◌, ◌-◌, ◌*◌, ◌/◌, ◌≤◌, ◌<◌}
 use native.Mathlib.Nat.{add-zero}
 use native.Mathlib.Omega.{arith}
@@ -17,25 +17,22 @@ use Rattle.definition.specs.Program.{Prog, on_p, world, ok, exec, flat}
 use Rattle.definition.specs.Calls.{Said, said}
 use Rattle.definition.specs.Scan.{matches, window_size, Wrote, more, ended, write, last_of, listing, advances, window_after, on_wrote, passes, scan_from}
 use Rattle.definition.specs.declared.Step.{Step}
-use Rattle.definition.specs.declared.Fault.{Fault}
 use Rattle.definition.specs.declared.Fault.TheVariants.{ScanStalled}
 use Rattle.definition.specs.declared.Health.{Health}
 use Rattle.definition.specs.declared.Health.TheVariants.{Clean}
-use Rattle.definition.specs.declared.ScanEnd.{ScanEnd}
+use Rattle.definition.specs.Answers.{ScanAnswer}
 use Rattle.definition.specs.declared.ScanEnd.TheVariants as E
 use Rattle.definition.specs.declared.Scanned.{Scanned}
 use Rattle.definition.proofs.Choices.{pick_yes, pick_no}
 use Rattle.definition.proofs.Image.{good_parts, records_append}
 use Rattle.slices.specs.Written.{written}
-use Rattle.items.specs.declared.ItemAnswer.{ItemAnswer}
-use Rattle.items.specs.declared.ItemAnswer.TheVariants.{Done, Failed}
 use Rattle.items.proofs.Along.{runs_ret, Left, left_as, left_end, left_turn, left_else}
-use Rattle.windows.specs.declared.ScanWindow.{ScanWindow}
-use Rattle.windows.specs.declared.Last.{Last}
-use Rattle.windows.specs.declared.Last.TheVariants.{Nothing}
 use Rattle.scan.specs.declared.Listing.{Listing}
-use Rattle.windows.specs.Forms.{Direction, last_key, LastHeld, Lasts, window_items}
-use Rattle.scan.specs.Forms.{pass_run, Passes, refused_as, Scans}
+use Rattle.items.specs.declared.Failure.{Failure}
+use Rattle.region.specs.declared.Place.{Place}
+use Rattle.windows.specs.declared.ScanWindow.{ScanWindow}
+use Rattle.windows.specs.Forms.{Direction, last_key, LastHeld, Lasts, window_items, Sane}
+use Rattle.scan.specs.Forms.{Passed, pass_run, Passes, Scans}
 use Rattle.definition.proofs.Windows.{take_more, Strict, sift, gather_length, sorted_length, sorted, above, kept_sorted, rising_sorted, above_next}
 use Rattle.definition.proofs.ScanRuns.{ticks, window_kept, scan_finished}
 use Rattle.windows.proofs.Windows.{window_length}
@@ -110,13 +107,13 @@ module _ {most : ℕ} {window : List Item} {out₀ : Bytes} {count₀ len₀ : �
     module _ (done : List Item) (ec : length done ≡ count₀) (el : length (records done) ≡ len₀) where
       -- the tests of the next record, in the definition's words
       next : write (length out₀) most done window
-          ≡ pick (ltb (length out₀) (length (records (done ++ take i window)) + length (record_of x))) (ended E.NoRoom (done ++ take i window))
-          (pick (eqb (length (done ++ take i window) + 1) most) (ended E.Stopped ((done ++ take i window) ++ (x ∷ [])))
+          ≡ pick (ltb (length out₀) (length (records (done ++ take i window)) + length (record_of x))) (ended (Ok E.NoRoom) (done ++ take i window))
+          (pick (eqb (length (done ++ take i window) + 1) most) (ended (Ok E.Stopped) ((done ++ take i window) ++ (x ∷ [])))
           (write (length out₀) most ((done ++ take i window) ++ (x ∷ [])) (drop (i + 1) window)))
       unfolding write
       next = r.goes done ec el ∙ ap (write (length out₀) most (done ++ take i window)) e
 
-      pub writing_full : length out - len < n → write (length out₀) most done window ≡ ended E.NoRoom (done ++ take i window)
+      pub writing_full : length out - len < n → write (length out₀) most done window ≡ ended (Ok E.NoRoom) (done ++ take i window)
       writing_full f =
           let s = r.same in
           let k = r.fits in
@@ -126,17 +123,17 @@ module _ {most : ℕ} {window : List Item} {out₀ : Bytes} {count₀ len₀ : �
 
       module _ (f : n ≤ length out - len) where
         fits_in : write (length out₀) most done window
-            ≡ pick (eqb (count + 1) most) (ended E.Stopped (done ++ take (i + 1) window)) (write (length out₀) most (done ++ take (i + 1) window) (drop (i + 1) window))
+            ≡ pick (eqb (count + 1) most) (ended (Ok E.Stopped) (done ++ take (i + 1) window)) (write (length out₀) most (done ++ take (i + 1) window) (drop (i + 1) window))
         fits_in =
             let s = r.same in
             let k = r.fits in
             let l = written_length done el in
             let t : length (records (done ++ take i window)) + length (record_of x) ≤ length out₀ = omega arith in
             next ∙ pick_no _ _ (le-ltb _ _ t)
-            ∙ ap₂ (λ (c : ℕ) (d : List Item). pick (eqb (c + 1) most) (ended E.Stopped d) (write (length out₀) most d (drop (i + 1) window)))
+            ∙ ap₂ (λ (c : ℕ) (d : List Item). pick (eqb (c + 1) most) (ended (Ok E.Stopped) d) (write (length out₀) most d (drop (i + 1) window)))
             (written_count done ec) (sym (one_more done))
 
-        pub writing_stops : count + 1 ≡ most → write (length out₀) most done window ≡ ended E.Stopped (done ++ take (i + 1) window)
+        pub writing_stops : count + 1 ≡ most → write (length out₀) most done window ≡ ended (Ok E.Stopped) (done ++ take (i + 1) window)
         writing_stops m = fits_in ∙ pick_yes _ _ (eq-eqb _ _ m)
 
         writing_goes : (count + 1 ≡ most → ⊥) → write (length out₀) most done window ≡ write (length out₀) most (done ++ take (i + 1) window) (drop (i + 1) window)
@@ -169,7 +166,7 @@ module _ {most : ℕ} {window : List Item} {out₀ : Bytes} {count₀ len₀ : �
 -- ---- the passes
 
 -- what is left to run is a scan beyond the last key, with the records of `done` written
-pub record Going (before : Direction) (s script prefix : Bytes) (most : ℕ) (base : Bytes) (t₀ : Step) (out : Bytes) (t : Step) (count len : ℕ) (last : Last) : Type 0 where
+pub record Going (before : Direction) (s script prefix : Bytes) (most : ℕ) (base : Bytes) (t₀ : Step) (out : Bytes) (t : Step) (count len : ℕ) (last : Option Place) : Type 0 where
   pub done : List Item
   pub fuel : ℕ
   pub held : LastHeld s last
@@ -183,7 +180,7 @@ pub record Going (before : Direction) (s script prefix : Bytes) (most : ℕ) (ba
   pub left : (h : Health)
       → Left (scan_from before flat prefix most (length base) h) s script t₀ (passes before flat (suc fuel) prefix most (length base) h (last_key s last) done) s t
 
-pub going_start : {before : Direction} (s script prefix : Bytes) (most : ℕ) (out : Bytes) (t : Step) → good s ≡ true → 0 < most → Going before s script prefix most out t out t 0 0 Nothing
+pub going_start : {before : Direction} (s script prefix : Bytes) (most : ℕ) (out : Bytes) (t : Step) → good s ≡ true → 0 < most → Going before s script prefix most out t out t 0 0 None
 unfolding records last_key scan_from exec
 going_start {before} s script prefix most out t g m =
     record {
@@ -191,7 +188,7 @@ going_start {before} s script prefix most out t g m =
       fuel = length (items s);
       held = tt;
       enough =
-          omega (arith, sorted_length before none prefix (items s));
+          omega (arith, sorted_length before None prefix (items s));
       same = refl;
       counts = refl;
       long = refl;
@@ -202,17 +199,17 @@ going_start {before} s script prefix most out t g m =
     }
 
 pub scan_nothing : {before : Direction} (s script prefix : Bytes) (most : ℕ) (out : Bytes) (t : Step) → most ≡ 0
-    → Scans before s script prefix most t out out (record { end = E.Stopped; count = 0; length = 0; step = t })
+    → Scans before s script prefix most t out out (record { end = (Ok E.Stopped); count = 0; length = 0; step = t })
 unfolding records scan_from exec
 scan_nothing s script prefix most out t e =
     record { done = []; made = laid_none out; is = λ h. sym (ap (λ (p : Prog Bytes (Said Scanned)). exec p (world s script t)) (pick_yes _ _ (eq-eqb most 0 e))) }
 
-module _ {before : Direction} {s script prefix : Bytes} {most : ℕ} {base : Bytes} {t₀ : Step} {out : Bytes} {t : Step} {count len : ℕ} {last : Last} (g : Going before s script prefix most base t₀ out t count len last) where
+module _ {before : Direction} {s script prefix : Bytes} {most : ℕ} {base : Bytes} {t₀ : Step} {out : Bytes} {t : Step} {count len : ℕ} {last : Option Place} (g : Going before s script prefix most base t₀ out t count len last) where
   good_region : good s ≡ true
   good_region = (g.left Clean).fine
 
   -- the run came to a listing
-  ends : (e : ScanEnd) (d : List Item) {after : Bytes} {t1 : Step} {c l : ℕ} → length d ≡ c → length (records d) ≡ l → after ≡ laid (records d) base
+  ends : (e : ScanAnswer) (d : List Item) {after : Bytes} {t1 : Step} {c l : ℕ} → length d ≡ c → length (records d) ≡ l → after ≡ laid (records d) base
       → ((h : Health) → Left (scan_from before flat prefix most (length base) h) s script t₀ (listing e d h) s t1)
       → Scans before s script prefix most t₀ base after (record { end = e; count = c; length = l; step = t1 })
   ends e d {after} {t1} ec el made left =
@@ -224,48 +221,49 @@ module _ {before : Direction} {s script prefix : Bytes} {most : ℕ} {base : Byt
             ∙ (left_end (left h) (runs_ret good_region)).is;
       }
 
-  module _ {a : ItemAnswer} {w : ScanWindow} (p : Passes before s script prefix (last_key s last) t a w) where
+  module _ {a : Passed} (p : Passes before s script prefix (last_key s last) t a) where
     -- what follows a pass that kept a window
     abbrev onward : Health → List Item → Prog Bytes (Said Scanned)
     onward h window =
-        pick (ltb (length window) window_size) (listing E.Finished (g.done ++ window) h)
+        pick (ltb (length window) window_size) (listing (Ok E.Finished) (g.done ++ window) h)
         (passes before flat g.fuel prefix most (length base) h (last_of (last_key s last) window) (g.done ++ window))
 
     abbrev kept : Health → List Item → Prog Bytes (Said Scanned)
     kept h window =
         pick (advances before (last_key s last) window)
         (on_wrote before flat (write (length base) most g.done window) h
-        (λ d. pick (ltb (length window) window_size) (listing E.Finished d h)
+        (λ d. pick (ltb (length window) window_size) (listing (Ok E.Finished) d h)
         (passes before flat g.fuel prefix most (length base) h (last_of (last_key s last) window) d)))
-        (listing (E.Refused ScanStalled) g.done h)
+        (listing (Err ScanStalled) g.done h)
 
     opened : (h : Health)
         → Left (scan_from before flat prefix most (length base) h) s script t₀
-        (on_p (window_after before flat prefix (last_key s last)) (kept h) (λ e. listing (E.Refused e) g.done h)) s t
+        (on_p (window_after before flat prefix (last_key s last)) (kept h) (λ e. listing (Err e) g.done h)) s t
     unfolding passes
     opened h = left_as (g.left h) refl
 
-    pub going_failed : {f : Fault} {t1 : Step} {r : Listing} → a ≡ Failed f t1 → r ≡ refused_as a count len → Scans before s script prefix most t₀ base out r
-    going_failed {f} {t1} e er =
-        subst (Scans before s script prefix most t₀ base out) (sym (er ∙ ap (λ (x : ItemAnswer). refused_as x count len) e))
-        (ends (E.Refused f) g.done g.counts g.long g.made
-        (λ h. left_else (kept h) (λ e. listing (E.Refused e) g.done h) (opened h)
-        (record { fine = good_region; is = sym (ap (pass_run s script (window_items s w)) e) ∙ p.is })))
+    pub going_failed : {f : Failure} → a ≡ Err f → Scans before s script prefix most t₀ base out (record { end = Err f.fault; count = count; length = len; step = f.step })
+    going_failed {f} e =
+        ends (Err f.fault) g.done g.counts g.long g.made
+        (λ h. left_else (kept h) (λ e. listing (Err e) g.done h) (opened h) (record { fine = good_region; is = sym (ap (pass_run s script) e) ∙ p.is }))
 
-    module _ {t1 : Step} (e : a ≡ Done t1) where
+    module _ {w : ScanWindow} {t1 : Step} (e : a ≡ Ok (w, t1)) where
+      pub pass_sane : Sane s w
+      pass_sane = subst (λ r. IfOk r (λ x. Sane s x.0)) e p.sane
+
       kept_window : ok (window_items s w) (world s script t1) ≡ exec (window_after before flat prefix (last_key s last)) (world s script t)
-      kept_window = sym (ap (pass_run s script (window_items s w)) e) ∙ p.is
+      kept_window = sym (ap (pass_run s script) e) ∙ p.is
 
       after_pass : (h : Health) → Left (scan_from before flat prefix most (length base) h) s script t₀ (kept h (window_items s w)) s t1
-      after_pass h = left_turn (kept h) (λ e. listing (E.Refused e) g.done h) (opened h) (record { fine = good_region; is = kept_window })
+      after_pass h = left_turn (kept h) (λ e. listing (Err e) g.done h) (opened h) (record { fine = good_region; is = kept_window })
 
       -- the window is the first of what is to come
       window_is : Strict before → window_items s w ≡ take window_size (above before (last_key s last) (sorted before prefix (items s)))
       window_is S = (window_kept flat before prefix (last_key s last) kept_window).is_kept ∙ kept_sorted before S (last_key s last) prefix (items s)
 
       module _ {b : Bool} (eb : b ≡ advances before (last_key s last) (window_items s w)) where
-        pub going_stalled : b ≡ false → Scans before s script prefix most t₀ base out (record { end = E.Refused ScanStalled; count = count; length = len; step = t1 })
-        going_stalled f = ends (E.Refused ScanStalled) g.done g.counts g.long g.made (λ h. left_as (after_pass h) (pick_no _ _ (sym eb ∙ f)))
+        pub going_stalled : b ≡ false → Scans before s script prefix most t₀ base out (record { end = Err ScanStalled; count = count; length = len; step = t1 })
+        going_stalled f = ends (Err ScanStalled) g.done g.counts g.long g.made (λ h. left_as (after_pass h) (pick_no _ _ (sym eb ∙ f)))
 
         pub going_writes : Writing most (window_items s w) out count len out count len 0
         going_writes = writing_start most (window_items s w) out count len (let f = g.fits in let e = g.same in omega arith) g.fewer
@@ -274,29 +272,29 @@ module _ {before : Direction} {s script prefix : Bytes} {most : ℕ} {base : Byt
           writes : (h : Health) {x : Wrote} → write (length out) most g.done (window_items s w) ≡ x
               → Left (scan_from before flat prefix most (length base) h) s script t₀
               (on_wrote before flat x h
-              (λ d. pick (ltb (length (window_items s w)) window_size) (listing E.Finished d h)
+              (λ d. pick (ltb (length (window_items s w)) window_size) (listing (Ok E.Finished) d h)
               (passes before flat g.fuel prefix most (length base) h (last_of (last_key s last) (window_items s w)) d))) s t1
           writes h {x} q =
               left_as (after_pass h)
               (pick_yes _ _ (sym eb ∙ adv)
               ∙ ap (λ (y : Wrote). on_wrote before flat y h
-              (λ d. pick (ltb (length (window_items s w)) window_size) (listing E.Finished d h)
+              (λ d. pick (ltb (length (window_items s w)) window_size) (listing (Ok E.Finished) d h)
               (passes before flat g.fuel prefix most (length base) h (last_of (last_key s last) (window_items s w)) d)))
               (ap (λ (n : ℕ). write n most g.done (window_items s w)) (sym g.same) ∙ q))
 
           module _ {x : Item} (ex : drop i (window_items s w) ≡ x ∷ drop (i + 1) (window_items s w)) {n : ℕ} (en : n ≡ length (record_of x)) where
-            pub going_full : length now - l < n → Scans before s script prefix most t₀ base now (record { end = E.NoRoom; count = c; length = l; step = t1 })
+            pub going_full : length now - l < n → Scans before s script prefix most t₀ base now (record { end = (Ok E.NoRoom); count = c; length = l; step = t1 })
             unfolding on_wrote
             going_full f =
-                ends E.NoRoom (g.done ++ take i (window_items s w)) (written_count r g.done g.counts) (written_length r g.done g.long) (r.made g.done base g.long g.made)
+                ends (Ok E.NoRoom) (g.done ++ take i (window_items s w)) (written_count r g.done g.counts) (written_length r g.done g.long) (r.made g.done base g.long g.made)
                 (λ h. writes h (writing_full r ex en g.done g.counts g.long f))
 
             pub going_stops : {after : Bytes} → after ≡ written now l (record_of x) → length after ≡ length now → i < length (window_items s w) → n ≤ length now - l → c + 1 ≡ most
-                → Scans before s script prefix most t₀ base after (record { end = E.Stopped; count = c + 1; length = l + n; step = t1 })
+                → Scans before s script prefix most t₀ base after (record { end = (Ok E.Stopped); count = c + 1; length = l + n; step = t1 })
             unfolding on_wrote
             going_stops {after} ea el k f m =
                 let d : List Item = g.done ++ take (i + 1) (window_items s w) in
-                ends E.Stopped d
+                ends (Ok E.Stopped) d
                 (omega (arith, length-append g.done (take (i + 1) (window_items s w)), length-take-le (i + 1) (window_items s w) (omega arith), r.counts, g.counts))
                 (omega (arith, ap length (more_records r ex en g.done), length-append (records (g.done ++ take i (window_items s w))) (record_of x), written_length r g.done g.long))
                 (written_made r ex en ea el g.done base g.long g.made)
@@ -304,13 +302,13 @@ module _ {before : Direction} {s script prefix : Bytes} {most : ℕ} {base : Byt
 
           module _ (over : w.len ≤ i) where
             all_taken : take i (window_items s w) ≡ window_items s w
-            all_taken = take_all i (window_items s w) (let q = window_length p.sane in omega arith)
+            all_taken = take_all i (window_items s w) (let q = window_length pass_sane in omega arith)
 
             wrote_all : write (length out) most g.done (window_items s w) ≡ more (g.done ++ window_items s w)
             unfolding write
             wrote_all =
                 r.goes g.done g.counts g.long
-                ∙ ap (write (length out) most (g.done ++ take i (window_items s w))) (drop_of_length-le (window_items s w) {i = i} (let q = window_length p.sane in omega arith))
+                ∙ ap (write (length out) most (g.done ++ take i (window_items s w))) (drop_of_length-le (window_items s w) {i = i} (let q = window_length pass_sane in omega arith))
                 ∙ ap (λ (y : List Item). more (g.done ++ y)) all_taken
 
             on_all : (h : Health) → Left (scan_from before flat prefix most (length base) h) s script t₀ (onward h (window_items s w)) s t1
@@ -326,20 +324,20 @@ module _ {before : Direction} {s script prefix : Bytes} {most : ℕ} {base : Byt
             all_made : now ≡ laid (records (g.done ++ window_items s w)) base
             all_made = r.made g.done base g.long g.made ∙ ap (λ (y : List Item). laid (records (g.done ++ y)) base) all_taken
 
-            pub going_finished : w.len < window_size → Scans before s script prefix most t₀ base now (record { end = E.Finished; count = c; length = l; step = t1 })
+            pub going_finished : w.len < window_size → Scans before s script prefix most t₀ base now (record { end = (Ok E.Finished); count = c; length = l; step = t1 })
             going_finished k =
-                let q = window_length p.sane in
+                let q = window_length pass_sane in
                 let y : length (window_items s w) < window_size = omega arith in
-                ends E.Finished (g.done ++ window_items s w) all_counts all_long all_made (λ h. left_as (on_all h) (pick_yes _ _ (lt-ltb _ _ y)))
+                ends (Ok E.Finished) (g.done ++ window_items s w) all_counts all_long all_made (λ h. left_as (on_all h) (pick_yes _ _ (lt-ltb _ _ y)))
 
-            module _ (S : Strict before) (full : window_size ≤ w.len) {last1 : Last} (el : Lasts s (last_of (last_key s last) (window_items s w)) last1) where
+            module _ (S : Strict before) (full : window_size ≤ w.len) {last1 : Option Place} (el : Lasts s (last_of (last_key s last) (window_items s w)) last1) where
               -- eight fewer are to come
               fewer_left : length (above before (last_key s last1) (sorted before prefix (items s))) + window_size
                   ≡ length (above before (last_key s last) (sorted before prefix (items s)))
               fewer_left =
                   let all : List Item = sorted before prefix (items s) in
                   let rest : List Item = above before (last_key s last) all in
-                  let q = window_length p.sane in
+                  let q = window_length pass_sane in
                   let lw : length (window_items s w) ≡ length (take window_size rest) = ap length (window_is S) in
                   let k : window_size ≤ length rest = omega (arith, length-take window_size rest) in
                   let new : above before (last_key s last1) all ≡ drop window_size rest =
@@ -352,7 +350,7 @@ module _ {before : Direction} {s script prefix : Bytes} {most : ℕ} {base : Byt
 
               pub going_on : Going before s script prefix most base t₀ now t1 c l last1
               going_on =
-                  let q = window_length p.sane in
+                  let q = window_length pass_sane in
                   let y : window_size ≤ length (window_items s w) = omega arith in
                   let z = fewer_left in
                   let n = g.enough in
@@ -385,7 +383,7 @@ pub record Complete (before : Direction) (s prefix : Bytes) (t : Step) (out afte
   pub made : after ≡ laid (records (sorted before prefix (items s))) out
 
 pub complete : {before : Direction} {s script prefix : Bytes} {most : ℕ} {t : Step} {out after : Bytes} {r : Listing} → Strict before → good s ≡ true → Scans before s script prefix most t out after r
-    → r.end ≡ E.Finished → Complete before s prefix t out after r
+    → r.end ≡ (Ok E.Finished) → Complete before s prefix t out after r
 complete {before} {s} {script} {prefix} {most} {t} {out} {after} {r} S g h fin =
     let f = scan_finished flat before S prefix most (length out) Clean (good_parts s g).1 (h.is Clean) fin in
     let matching : List Item = sift (matches prefix) (items s) in

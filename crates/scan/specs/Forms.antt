@@ -1,6 +1,6 @@
 -- The forms of the scan's contracts: what a pass ran, and what a scan leaves.
-use Rattle.std.specs.Prelude.{◌≡◌, List, ℕ, length}
-use Rattle.std.proofs.Math.Option.{Option}
+use Rattle.std.specs.Prelude.{◌≡◌, List, ℕ, length, Option, IfOk, Ok, Err}
+use Rattle.std.specs.Prelude as P
 use Rattle.definition.specs.Tools.{Bytes}
 use Rattle.definition.specs.Codec.{laid}
 use Rattle.definition.specs.Region.{Item, records}
@@ -10,38 +10,27 @@ use Rattle.definition.specs.Scan.{window_after, scan_from}
 use Rattle.definition.specs.declared.Step.{Step}
 use Rattle.definition.specs.declared.Health.{Health}
 use Rattle.definition.specs.declared.Scanned.{Scanned}
-use Rattle.definition.specs.declared.ScanEnd.TheVariants as E
-use Rattle.items.specs.declared.ItemAnswer.{ItemAnswer}
-use Rattle.items.specs.declared.ItemAnswer.TheVariants.{Done, Failed}
-use Rattle.items.specs.declared.NextAnswer.{NextAnswer}
-use Rattle.items.specs.declared.NextAnswer.TheVariants.{Met, Unmet}
+use Rattle.items.specs.declared.Failure.{Failure}
 use Rattle.windows.specs.declared.ScanWindow.{ScanWindow}
 use Rattle.windows.specs.Forms.{Direction, window_items, Sane}
 use Rattle.scan.specs.declared.Listing.{Listing}
 
 -- ---- passes
 
--- an iteration's answer as a pass hands it on
-abbrev pub unmet_as : NextAnswer → ItemAnswer
-unmet_as (Met x t) = Done t
-unmet_as (Unmet f t) = Failed f t
+-- what a pass comes to: the window that it kept, and where it then stands
+abbrev pub Passed : Type 0
+Passed = P.Result (ScanWindow × Step) Failure
 
-abbrev pub pass_run : Bytes → Bytes → List Item → ItemAnswer → Result (World Bytes) (List Item)
-pass_run s script kept (Done t) = ok kept (world s script t)
-pass_run s script kept (Failed f t) = bad f (world s script t)
+abbrev pub pass_run : Bytes → Bytes → Passed → Result (World Bytes) (List Item)
+pass_run s script (Ok r) = ok (window_items s r.0) (world s script r.1)
+pass_run s script (Err e) = bad e.fault (world s script e.step)
 
--- a pass beyond the last key, from step t, answers r and keeps w
-pub record Passes (before : Direction) (s script prefix : Bytes) (last : Option Bytes) (t : Step) (r : ItemAnswer)
-    (w : ScanWindow) : Type 0 where
-  pub sane : Sane s w
-  pub is : pass_run s script (window_items s w) r ≡ exec (window_after before flat prefix last) (world s script t)
+-- a pass beyond the last key, from step t, comes to r
+pub record Passes (before : Direction) (s script prefix : Bytes) (last : Option Bytes) (t : Step) (r : Passed) : Type 0 where
+  pub sane : IfOk r (λ x. Sane s x.0)
+  pub is : pass_run s script r ≡ exec (window_after before flat prefix last) (world s script t)
 
 -- ---- the scan
-
--- a pass's answer as a scan hands it on
-abbrev pub refused_as : ItemAnswer → ℕ → ℕ → Listing
-refused_as (Failed f t) count len = record { end = E.Refused f; count = count; length = len; step = t }
-refused_as (Done t) count len = record { end = E.Finished; count = count; length = len; step = t }
 
 abbrev pub scanned_of : Listing → Scanned
 scanned_of r = record { end = r.end; count = r.count; length = r.length }

@@ -7,7 +7,8 @@ ghost use Rattle.definition.specs.Script.{fault_of, byte_fate};
 
 use definition::{DriverKind, Fault, SerializationKind, Step, Verdict};
 
-// The fault that the low seven bits of a script byte name, where they are not 0.
+// The fault that the low seven bits of a script byte name, where they are not 0: document 01's codes, so numbers.
+#[tactic(auto, unfolding(definition::specs::Script::fault_of, definition::specs::Tools::pick))]
 fn fault_of(code: u8) -> Fault
     ensures { result ≡ fault_of code }
 {
@@ -32,6 +33,7 @@ fn fault_of(code: u8) -> Fault
 }
 
 // The fate that a script byte brings: bit 7 says whether the effect comes first.
+#[tactic(auto, using(crate::proofs::Laws::byte_tests))]
 fn byte_fate(byte: u8) -> Verdict
     ensures { result ≡ byte_fate byte }
 {
@@ -40,53 +42,39 @@ fn byte_fate(byte: u8) -> Verdict
         return Verdict::Pass;
     }
     let effect = 128 <= byte;
-    let fault = fault_of(code);
-    Verdict::Fail(fault, effect)
+    Verdict::Fail(fault_of(code), effect)
 }
 
 // The fate of the next item call: a standing cut first, then the script's byte, and a pass at its end.
+#[tactic(auto, using(crate::proofs::Laws::fates))]
 pub fn fate(script: &[u8], step: Step) -> Verdict
     ensures { result ≡ Script.fate script.now step }
 {
     if step.cut {
         return Verdict::Fail(Fault::Driver(DriverKind::Other), false);
     }
-    let at = step.at;
-    if at < script.len() {
-        return byte_fate(script[at]);
+    match script.get(step.at) {
+        Some(&byte) => byte_fate(byte),
+        None => Verdict::Pass,
     }
-    Verdict::Pass
 }
 
 // Where a call stands after its next item call.
+#[tactic(auto, using(crate::proofs::Laws::steps))]
 pub fn stepped(script: &[u8], step: Step) -> Step
     ensures { result ≡ Script.stepped script.now step }
 {
-    let calls = std::num::wrapping_add_u64(step.calls, 1);
-    let at = step.at;
-    let space = step.space;
+    let calls = step.calls.wrapping_add(1);
     if step.cut {
-        return Step {
-            at: at,
-            cut: true,
-            calls: calls,
-            space: space,
-        };
+        return Step { calls, ..step };
     }
-    if at < script.len() {
-        let code = script[at] % 128;
-        let cut = code == 127;
-        return Step {
-            at: at + 1,
-            cut: cut,
-            calls: calls,
-            space: space,
-        };
-    }
-    Step {
-        at: at,
-        cut: false,
-        calls: calls,
-        space: space,
+    match script.get(step.at) {
+        Some(byte) => Step {
+            at: step.at + 1,
+            cut: byte % 128 == 127,
+            calls,
+            ..step
+        },
+        None => Step { calls, ..step },
     }
 }

@@ -6,12 +6,8 @@ ghost use Rattle.std.specs.Prelude.{◌≡◌, []};
 ghost use Rattle.definition.specs.Public;
 ghost use Rattle.definition.specs.Public.{outcome};
 
-use codec::{Checked, Key};
-use definition::{
-    Answer, Fault, GetAnswer, GetReply, Health, Reply, Space, State, TruthAnswer, TruthReply,
-};
-use gate::Converged;
-use items::ItemAnswer;
+use codec::Key;
+use definition::{Answer, Fault, GetAnswer, Health, Reply, Space, State, TruthAnswer};
 
 // ---- put
 
@@ -19,29 +15,24 @@ use items::ItemAnswer;
 // recovery's fault, if the store was Pending; 2 for the value's length, 3 for a reserved key, 2 for the key's length,
 // none of which changes anything of its own; then the store's own fault (4 to 12), after which the value may be in or
 // not. A full region in Debris is recovered and tried once more. On the console: `put a 1` says `put ok 1 clean`.
-pub fn put(region: &mut [u8], script: &[u8], state: State, key: &[u8], value: &[u8]) -> Reply
+pub fn put(
+    region: &mut [u8],
+    script: &[u8],
+    state: State,
+    key: &[u8],
+    value: &[u8],
+) -> Reply<Answer>
     ensures { outcome result.answer result.state result.calls region.new []
         ≡ Public.put region.old script.now state key.now value.now }
 {
     if !region::is_good(region) {
-        return Reply {
-            answer: Answer::Refused(Fault::Corrupted),
-            state: state,
-            calls: 0,
-        };
+        return gate::unchanged(Err(Fault::Corrupted), state);
     }
-    let health = state.health;
-    let converged = gate::converge(
-        region,
-        script,
-        gate::is_pending(health),
-        health,
-        gate::begin(state),
-    );
-    let Converged::Ready(ready, step) = converged else {
-        return gate::refused(gate::why(converged), health);
+    let (health, step) = match gate::ready(region, script, state) {
+        Ok(ready) => ready,
+        Err(failed) => return gate::refused(failed, state.health),
     };
-    putting::put_ready(region, script, key, value, ready, step)
+    putting::put_ready(region, script, key, value, health, step)
 }
 
 // ---- get
@@ -50,32 +41,27 @@ pub fn put(region: &mut [u8], script: &[u8], state: State, key: &[u8], value: &[
 // and no item call; a recovery's fault, if the store was Pending; the fetch's own fault; 18 with the length that is
 // needed. Each leaves the output as it was. A key that is reserved or too long is absent, and is not fetched. On the
 // console: `get a` says `get found 1 1 clean`, or `get absent 1 clean`.
-pub fn get(region: &mut [u8], script: &[u8], state: State, key: &[u8], out: &mut [u8]) -> GetReply
+pub fn get(
+    region: &mut [u8],
+    script: &[u8],
+    state: State,
+    key: &[u8],
+    out: &mut [u8],
+) -> Reply<GetAnswer>
     ensures { outcome result.answer result.state result.calls region.new out.new
         ≡ Public.get region.old script.now state key.now out.old }
 {
     if !region::is_good(region) {
-        return GetReply {
-            answer: GetAnswer::Refused(Fault::Corrupted),
-            state: state,
-            calls: 0,
-        };
+        return gate::unchanged(Err(Fault::Corrupted), state);
     }
-    let health = state.health;
-    let converged = gate::converge(
-        region,
-        script,
-        gate::is_pending(health),
-        health,
-        gate::begin(state),
-    );
-    let Converged::Ready(ready, step) = converged else {
-        return finding::get_refused(gate::why(converged), health);
+    let (health, step) = match gate::ready(region, script, state) {
+        Ok(ready) => ready,
+        Err(failed) => return gate::refused(failed, state.health),
     };
     if limits::unstorable(key) {
-        return finding::get_reply(GetAnswer::Absent, ready, step);
+        return gate::reply(Ok(None), health, step);
     }
-    finding::get_key(region, script, key, ready, step, out)
+    gate::told(finding::get_key(region, script, key, step, out), health)
 }
 
 // ---- contains
@@ -83,32 +69,21 @@ pub fn get(region: &mut [u8], script: &[u8], state: State, key: &[u8], out: &mut
 // Whether a key has a value. Refusals, in order: 7 for a bad image, with nothing changed and no item call; a
 // recovery's fault, if the store was Pending; the fetch's own fault. A key that is reserved or too long is not there,
 // and is not fetched. On the console: `has a` says `has yes 1 clean`.
-pub fn contains(region: &mut [u8], script: &[u8], state: State, key: &[u8]) -> TruthReply
+pub fn contains(region: &mut [u8], script: &[u8], state: State, key: &[u8]) -> Reply<TruthAnswer>
     ensures { outcome result.answer result.state result.calls region.new []
         ≡ Public.contains region.old script.now state key.now }
 {
     if !region::is_good(region) {
-        return TruthReply {
-            answer: TruthAnswer::Refused(Fault::Corrupted),
-            state: state,
-            calls: 0,
-        };
+        return gate::unchanged(Err(Fault::Corrupted), state);
     }
-    let health = state.health;
-    let converged = gate::converge(
-        region,
-        script,
-        gate::is_pending(health),
-        health,
-        gate::begin(state),
-    );
-    let Converged::Ready(ready, step) = converged else {
-        return gate::truth_refused(gate::why(converged), health);
+    let (health, step) = match gate::ready(region, script, state) {
+        Ok(ready) => ready,
+        Err(failed) => return gate::refused(failed, state.health),
     };
     if limits::unstorable(key) {
-        return gate::truth(TruthAnswer::No, ready, step);
+        return gate::reply(Ok(false), health, step);
     }
-    finding::contains_key(region, script, key, ready, step)
+    gate::told(finding::contains_key(region, script, key, step), health)
 }
 
 // ---- delete
@@ -117,30 +92,24 @@ pub fn contains(region: &mut [u8], script: &[u8], state: State, key: &[u8]) -> T
 // changed and no item call; 3 for a reserved key, before any recovery; a recovery's fault, if the store was Pending;
 // the fetch's fault, and then the removal's, after which the value may be gone or not. A key that is too long was
 // never there. On the console: `del a` says `del yes 2 clean`.
-pub fn delete(region: &mut [u8], script: &[u8], state: State, key: &[u8]) -> TruthReply
+pub fn delete(region: &mut [u8], script: &[u8], state: State, key: &[u8]) -> Reply<TruthAnswer>
     ensures { outcome result.answer result.state result.calls region.new []
         ≡ Public.delete region.old script.now state key.now }
 {
     if !region::is_good(region) {
-        return TruthReply {
-            answer: TruthAnswer::Refused(Fault::Corrupted),
-            state: state,
-            calls: 0,
-        };
+        return gate::unchanged(Err(Fault::Corrupted), state);
     }
-    let health = state.health;
-    let begun = gate::begin(state);
     if codec::reserved(key) {
-        return gate::truth(TruthAnswer::Refused(Fault::ReservedKey), health, begun);
+        return gate::unchanged(Err(Fault::ReservedKey), state);
     }
-    let converged = gate::converge(region, script, gate::is_pending(health), health, begun);
-    let Converged::Ready(ready, step) = converged else {
-        return gate::truth_refused(gate::why(converged), health);
+    let (health, step) = match gate::ready(region, script, state) {
+        Ok(ready) => ready,
+        Err(failed) => return gate::refused(failed, state.health),
     };
     if Key::MAX_LEN < key.len() {
-        return gate::truth(TruthAnswer::No, ready, step);
+        return gate::reply(Ok(false), health, step);
     }
-    finding::delete_key(region, script, key, ready, step)
+    gate::told(finding::delete_key(region, script, key, step), health)
 }
 
 // ---- mount
@@ -150,36 +119,26 @@ pub fn delete(region: &mut [u8], script: &[u8], state: State, key: &[u8]) -> Tru
 // end that is no page's, fewer than two pages, and 7 for a bad image, with nothing changed and no item call; then
 // recovery's fault, with what it did so far. After a refused mount the health is Pending, the place in the script the
 // one reached, and no call should be made but a mount. On the console: `mount 8192` says `mount ok 3 clean`.
-pub fn mount(region: &mut [u8], script: &[u8], start: u32, at: usize) -> Reply
+pub fn mount(region: &mut [u8], script: &[u8], start: u32, at: usize) -> Reply<Answer>
     ensures { outcome result.answer result.state result.calls region.new []
         ≡ Public.mount region.old script.now start at }
 {
-    let space = region::space(region);
     let state = State {
         health: Health::Pending,
-        at: at,
+        at,
         cut: false,
-        space: space,
+        space: region::space(region),
     };
-    if let Checked::Refused(fault) = limits::check_region(start, region.len()) {
-        return Reply {
-            answer: Answer::Refused(fault),
-            state: state,
-            calls: 0,
-        };
+    if let Err(fault) = limits::check_region(start, region.len()) {
+        return gate::unchanged(Err(fault), state);
     }
     if !region::is_good(region) {
-        return Reply {
-            answer: Answer::Refused(Fault::Corrupted),
-            state: state,
-            calls: 0,
-        };
+        return gate::unchanged(Err(Fault::Corrupted), state);
     }
-    let recovered = recovery::recover(region, script, gate::begin(state));
-    let ItemAnswer::Done(next) = recovered else {
-        return gate::refused(items::why(recovered), Health::Pending);
-    };
-    gate::reply(Answer::Ok, Health::Clean, next)
+    match recovery::recover(region, script, gate::begin(state)) {
+        Ok(next) => gate::reply(Ok(()), Health::Clean, next),
+        Err(failed) => gate::refused(failed, Health::Pending),
+    }
 }
 
 // ---- the display's question

@@ -1,41 +1,28 @@
--- Lines of the input: what is held of one, and where the bytes behind it wait.
-use Rattle.std.specs.Prelude.{◌≡◌, Bool, true, false, ◌++◌, ◌+◌, ◌≤◌, length, take, leb, eqb}
-use Rattle.definition.specs.Tools.{Bytes, pick}
-use Rattle.text.specs.declared.Held.{Held}
-use Rattle.text.specs.declared.Unread.{Unread}
-use Rattle.text.specs.declared.LineAnswer.{LineAnswer}
-use Rattle.text.specs.declared.LineKind.TheVariants.{Whole, TooLong, Over}
+-- Lines of the input, and what is held of one.
+use Rattle.std.specs.Prelude.{◌≡◌, ℕ, zero, suc, ◌++◌, ◌+◌, ◌≤◌, ◌<◌, length, take, Option, Some, None, MatchOption}
+use Rattle.definition.specs.Tools.{Bytes}
+use Rattle.text.specs.declared.Line.{Line}
+use Rattle.text.specs.declared.Line.TheVariants.{Whole, TooLong, Over}
 
--- a line's bytes are the first of the line buffer, and those that wait lie in the input buffer.
--- `counted` follows from `inside`: who lends those first bytes finds it here
-pub record LineRead (input line : Bytes) (r : LineAnswer) : Type 0 where
-  pub inside : r.len ≤ length line
-  pub counted : r.len ≡ length (take r.len line)
-  pub order : r.unread.from ≤ r.unread.to
-  pub within : r.unread.to ≤ length input
+-- a whole line's bytes are the first of the line buffer
+abbrev pub InLine : Bytes → Line → Type 0
+InLine line (Whole len) = len ≤ length line
+InLine line TooLong = Unit {0}
+InLine line Over = Unit {0}
 
--- what is held after p came: p behind what was held, if there is room
-unfoldable pub holds_all : Bytes → Held → Bytes → Bool
-holds_all line h p = pick h.fits (leb (h.len + length p) (length line)) false
+-- what is in use of a buffer after p came: p behind what was, if there is room
+pub record Appends (buffer : Bytes) (used : ℕ) (p after : Bytes) (r : Option ℕ) : Type 0 where
+  pub long : length after ≡ length buffer
+  pub is : MatchOption r (length buffer < used + length p)
+      (λ end. (end ≡ used + length p) × (end ≤ length buffer) × (take end after ≡ take used buffer ++ p))
 
-pub record Holds (line : Bytes) (h : Held) (p after : Bytes) (r : Held) : Type 0 where
-  pub long : length after ≡ length line
-  pub inside : r.len ≤ length line
-  pub fits : r.fits ≡ holds_all line h p
-  pub is : r.fits ≡ true → take r.len after ≡ take h.len line ++ p
-
--- the line that ended, with the bytes that wait behind it
-pub record Ended (h : Held) (u : Unread) (r : LineAnswer) : Type 0 where
-  pub kind : r.kind ≡ pick h.fits Whole TooLong
-  pub len : r.len ≡ pick h.fits h.len 0
-  pub short : r.len ≤ h.len
-  pub from : r.unread.from ≡ u.from
-  pub to : r.unread.to ≡ u.to
+-- the line that ended, of which so much is held, or all was too much
+abbrev pub whole : Option ℕ → Line
+whole None = TooLong
+whole (Some len) = Whole len
 
 -- the same at the end of the input: nothing held is no line
-pub record Last (h : Held) (r : LineAnswer) : Type 0 where
-  pub kind : r.kind ≡ pick h.fits (pick (eqb h.len 0) Over Whole) TooLong
-  pub len : r.len ≡ pick h.fits h.len 0
-  pub short : r.len ≤ h.len
-  pub from : r.unread.from ≡ 0
-  pub to : r.unread.to ≡ 0
+abbrev pub last_of : Option ℕ → Line
+last_of None = TooLong
+last_of (Some zero) = Over
+last_of (Some (suc n)) = Whole (suc n)

@@ -1,292 +1,213 @@
 // What the console programs read: the lines of standard input, the words of a line, and numbers in text.
 #![tactic(auto)]
 
-ghost use Rattle.std.specs.Prelude.{◌≡◌, ◌+◌, ◌-◌, ◌≤◌, ◌<◌, length, take, drop};
-ghost use Rattle.text.specs.Words.{Finds, Skips, NextWord};
+ghost use Rattle.std.specs.Prelude.{◌≡◌, ◌+◌, ◌-◌, ◌≤◌, ◌<◌, ◌==◌, [], length, not, position, MatchOption};
+ghost use Rattle.text.specs.Words.{word_of, rest_of, IsNextWord, IsTwoWords};
 ghost use Rattle.text.specs.Numerals.{numeral_of, Digit, pair_of};
-ghost use Rattle.text.specs.Lines.{Holds, Ended, Last, LineRead};
+ghost use Rattle.text.specs.Lines.{Appends, whole, last_of, InLine};
 
 use std::io::Read;
+use std::marker::Model;
 
-const SPACE: u8 = 32;
+const SPACE: u8 = b' ';
 
-const LINE_END: u8 = 10;
+const LINE_END: u8 = b'\n';
 
 // ---- the words of a line
 
-// Where a word stands: from its first byte to the place behind its last. It is empty where the line has no word left.
-#[derive(Clone, Copy)]
-pub struct Field {
-    pub from: usize,
-    pub to: usize,
+// The first place of a byte.
+pub fn find(bytes: &[u8], byte: u8) -> Option<usize>
+    ensures { result ≡ position (λ x. x == byte) bytes.now }
+{
+    bytes.iter().position(|here| *here == byte)
 }
 
-// The first place of a byte, or the end.
-pub fn find(bytes: &[u8], byte: u8) -> usize
-    ensures { Finds bytes.now byte result }
+// The first place of any other byte.
+fn find_other(bytes: &[u8], byte: u8) -> Option<usize>
+    ensures { result ≡ position (λ x. not (x == byte)) bytes.now }
 {
-    for (at, here) in bytes.iter().enumerate() {
-        if *here == byte {
-            return at;
-        }
+    bytes.iter().position(|here| *here != byte)
+}
+
+// The next word and what stands behind it; it is empty where the line has no word left. Only spaces part words: every
+// other byte belongs to one.
+#[tactic(auto, using(crate::proofs::Laws::place, crate::proofs::Laws::next_is))]
+pub fn next_word(line: &[u8]) -> (&[u8], &[u8])
+    ensures { IsNextWord line.now result.0.now result.1.now }
+{
+    let start = find_other(line, SPACE).unwrap_or(line.len());
+    let (_, line) = line.split_at(start);
+    let end = find(line, SPACE).unwrap_or(line.len());
+    line.split_at(end)
+}
+
+// The words of a line that has two at most: one that it has not is empty.
+pub fn two_words(line: &[u8]) -> Option<(&[u8], &[u8])>
+    ensures { MatchOption result (0 < length (word_of (rest_of (rest_of line.now))))
+        (λ words. IsTwoWords line.now words.0.now words.1.now) }
+{
+    let (first, rest) = next_word(line);
+    let (second, rest) = next_word(rest);
+    let (third, _) = next_word(rest);
+    if third.is_empty() {
+        Some((first, second))
+    } else {
+        None
     }
-    bytes.len()
-}
-
-// The first place, from a place on, that is no space.
-fn skip_spaces(line: &[u8], from: usize) -> usize
-    requires { from ≤ length line.now }
-    ensures { Skips line.now from result }
-{
-    let mut at = from;
-    while at < line.len() {
-        if line[at] != SPACE {
-            return at;
-        }
-        at += 1;
-    }
-    at
-}
-
-// The next word, from a place on. Only spaces part words: every other byte belongs to one.
-pub fn next_field(line: &[u8], from: usize) -> Field
-    requires { from ≤ length line.now }
-    ensures { NextWord line.now from result }
-{
-    let first = skip_spaces(line, from);
-    let end = first + find(&line[first..], SPACE);
-    Field {
-        from: first,
-        to: end,
-    }
-}
-
-// A word's bytes.
-pub fn word(line: &[u8], field: Field) -> &[u8]
-    requires { (field.from ≤ field.to) × (field.to ≤ length line.now) }
-    ensures { result.now ≡ take (field.to - field.from) (drop field.from line.now) }
-{
-    let from = field.from;
-    let to = field.to;
-    &line[from..to]
-}
-
-// How many bytes of a buffer words filled, or that they cannot be read.
-#[derive(Clone, Copy)]
-pub enum Filled {
-    To(usize),
-    Unread,
 }
 
 // ---- numbers in text
 
-// What a word says as a number, or that it says none.
-#[derive(Clone, Copy)]
-pub enum Numeral {
-    Value(u64),
-    Unread,
-}
-
-// What a hex digit or two of them say.
-#[derive(Clone, Copy)]
-pub enum Hex {
-    Value(u8),
-    Unread,
-}
-
-// A byte as a number. A call, since a cast in place would ask each time that the byte fits.
-fn wide(byte: u8) -> u64
-    ensures { (result ≡ byte) × (result < 256) }
-{
-    byte as u64
-}
-
 // A decimal number of at most 64 bits. Leading zeros are fine; a sign, another byte or a larger number is not.
-pub fn read_numeral(word: &[u8]) -> Numeral
+#[tactic(auto, using(crate::proofs::Laws::no_digits, crate::proofs::Laws::reading_none, crate::proofs::Laws::reading_other, crate::proofs::Laws::reading_large, crate::proofs::Laws::reading_more, crate::proofs::Laws::reading_over))]
+pub fn read_numeral(word: &[u8]) -> Option<u64>
     ensures { result ≡ numeral_of word.now }
 {
-    if word.len() == 0 {
-        return Numeral::Unread;
+    if word.is_empty() {
+        return None;
     }
     let mut value: u64 = 0;
-    for digit in word {
-        let byte = wide(*digit);
-        if byte < 48 {
-            return Numeral::Unread;
+    for byte in word {
+        if !byte.is_ascii_digit() {
+            return None;
         }
-        if 57 < byte {
-            return Numeral::Unread;
-        }
-        let digit = byte - 48;
-        if (u64::MAX - digit) / 10 < value {
-            return Numeral::Unread;
-        }
-        value = value * 10 + digit;
+        value = value.checked_mul(10)?.checked_add(u64::from(*byte - b'0'))?;
     }
-    Numeral::Value(value)
+    Some(value)
 }
 
 // A hex digit of either case.
-fn digit(byte: u8) -> Hex
+#[tactic(auto, using(crate::proofs::Laws::digit_decimal, crate::proofs::Laws::digit_capital, crate::proofs::Laws::digit_letter, crate::proofs::Laws::digit_low, crate::proofs::Laws::digit_colon, crate::proofs::Laws::digit_bracket, crate::proofs::Laws::digit_high))]
+fn digit(byte: u8) -> Option<u8>
     ensures { Digit byte result }
 {
     match byte {
-        48..=57 => Hex::Value(byte - 48),
-        65..=70 => Hex::Value(byte - 55),
-        97..=102 => Hex::Value(byte - 87),
-        _ => Hex::Unread,
+        b'0'..=b'9' => Some(byte - b'0'),
+        b'A'..=b'F' => Some(byte - b'A' + 10),
+        b'a'..=b'f' => Some(byte - b'a' + 10),
+        _ => None,
     }
 }
 
 // Two hex digits, and nothing else.
-pub fn read_hex(word: &[u8]) -> Hex
+#[tactic(auto, using(crate::proofs::Laws::pair_other, crate::proofs::Laws::pair_no_high, crate::proofs::Laws::pair_no_low, crate::proofs::Laws::pair_both))]
+pub fn read_hex(word: &[u8]) -> Option<u8>
     ensures { result ≡ pair_of word.now }
 {
-    if word.len() != 2 {
-        return Hex::Unread;
+    let [high, low] = word else {
+        return None;
+    };
+    Some(digit(*high)? * 16 + digit(*low)?)
+}
+
+// ---- buffers
+
+// Appends bytes to those of a buffer that are in use, if they fit: hands back how many are in use then.
+pub fn append(buffer: &mut [u8], used: usize, bytes: &[u8]) -> Option<usize>
+    requires { used ≤ length buffer.old }
+    ensures { Appends buffer.old used bytes.now buffer.new result }
+{
+    if buffer.len() - used < bytes.len() {
+        return None;
     }
-    let Hex::Value(high) = digit(word[0]) else {
-        return Hex::Unread;
-    };
-    let Hex::Value(low) = digit(word[1]) else {
-        return Hex::Unread;
-    };
-    Hex::Value(high * 16 + low)
+    let end = used + bytes.len();
+    buffer[used..end].copy_from_slice(bytes);
+    Some(end)
 }
 
 // ---- the input in lines
 
-// The part of the input buffer that is read and not yet handed out.
+// How a line came: whole, as so many bytes; longer than the line buffer, and then all of it is read and none is kept;
+// or not at all, since the input is over.
 #[derive(Clone, Copy)]
-pub struct Unread {
-    pub from: usize,
-    pub to: usize,
-}
-
-// How a line came: whole; longer than the line buffer, and then all of it is read and none is kept; or not at all,
-// since the input is over.
-#[derive(Clone, Copy)]
-pub enum LineKind {
-    Whole,
+pub enum Line {
+    Whole(usize),
     TooLong,
     Over,
 }
 
-// A line: its bytes are the first `len` of the line buffer.
-#[derive(Clone, Copy)]
-pub struct LineAnswer {
-    pub kind: LineKind,
-    pub len: usize,
-    pub unread: Unread,
-}
-
-// What is held of a line so far.
-#[derive(Clone, Copy)]
-struct Held {
-    len: usize,
-    fits: bool,
-}
-
-// Holds some more bytes of a line, if they fit behind those that are held.
-fn hold(line: &mut [u8], held: Held, part: &[u8]) -> Held
-    requires { held.len ≤ length line.old }
-    ensures { Holds line.old held part.now line.new result }
+// The line that a newline ended, or a line too long of which nothing is held.
+fn ended(held: Option<usize>) -> Line
+    ensures { result ≡ whole held }
 {
-    if !held.fits {
-        return held;
-    }
-    let len = held.len;
-    if line.len() - len < part.len() {
-        return Held {
-            len: 0,
-            fits: false,
-        };
-    }
-    slices::copy_in(line, len, part);
-    Held {
-        len: len + part.len(),
-        fits: true,
-    }
-}
-
-// The line that ended.
-fn ended(held: Held, unread: Unread) -> LineAnswer
-    ensures { Ended held unread result }
-{
-    let len = held.len;
-    if held.fits {
-        return LineAnswer {
-            kind: LineKind::Whole,
-            len: len,
-            unread: unread,
-        };
-    }
-    LineAnswer {
-        kind: LineKind::TooLong,
-        len: 0,
-        unread: unread,
+    match held {
+        Some(len) => Line::Whole(len),
+        None => Line::TooLong,
     }
 }
 
 // The line that the end of the input ended: one without a newline, if there is a byte of it.
-fn last(held: Held) -> LineAnswer
-    ensures { Last held result }
+fn last(held: Option<usize>) -> Line
+    ensures { result ≡ last_of held }
 {
-    let unread = Unread { from: 0, to: 0 };
-    if held.fits {
-        if held.len == 0 {
-            return LineAnswer {
-                kind: LineKind::Over,
-                len: 0,
-                unread: unread,
-            };
-        }
-    }
-    ended(held, unread)
-}
-
-// Reads more bytes to the front of the input buffer, and hands back how many came: none at the end of the input, as
-// which a read that fails counts too.
-fn fill(reader: &mut impl Read, input: &mut [u8]) -> usize
-    ensures { result ≤ length input.new }
-{
-    match reader.read(input) {
-        Ok(count) => count,
-        Err(_) => 0,
+    match held {
+        Some(0) => Line::Over,
+        _ => ended(held),
     }
 }
 
-// The next line of the input, without its newline. Any byte but that may stand in it.
-pub fn read_line(
-    reader: &mut impl Read,
-    input: &mut [u8],
-    unread: Unread,
-    line: &mut [u8],
-) -> LineAnswer
-    requires { (unread.from ≤ unread.to) × (unread.to ≤ length input.old) }
-    ensures { LineRead input.new line.new result }
-{
-    let mut from = unread.from;
-    let mut to = unread.to;
-    let mut held = Held { len: 0, fits: true };
-    // A proved loop has to end, and nothing says that the input does: no run takes so many turns.
-    for _ in 0..u64::MAX {
-        let end = from + find(&input[from..to], LINE_END);
-        held = hold(line, held, &input[from..end]);
-        if end < to {
-            return ended(
-                held,
-                Unread {
-                    from: end + 1,
-                    to: to,
-                },
-            );
-        }
-        from = 0;
-        to = fill(reader, input);
-        if to == 0 {
-            return last(held);
+// An input, and the bytes of it that are read and not yet handed out: a part of a buffer.
+#[derive(Drop)]
+pub struct Input<R, const N: usize> {
+    reader: R,
+    bytes: [u8; N],
+    from: usize,
+    to: usize,
+}
+
+// Clauses see the bytes that wait.
+impl<R, const N: usize> Model for Input<R, N> {
+    ghost use Rattle.std.specs.Prelude.{List, ℕ, ◌-◌, ◌≤◌, take, drop};
+
+    ghost Value = { List ℕ };
+
+    ghost view = { λ i. take (i.to - i.from) (drop i.from i.bytes) };
+
+    ghost invariant = { λ i. (i.from ≤ i.to) × (i.to ≤ N) };
+}
+
+impl<R: Read, const N: usize> Input<R, N> {
+    // With nothing read yet.
+    pub fn new(reader: R) -> Self
+        ensures { result ≡ [] }
+    {
+        Input {
+            reader,
+            bytes: [0; N],
+            from: 0,
+            to: 0,
         }
     }
-    last(held)
+
+    // Reads more bytes, all that wait then: none at the end of the input, as which a read that fails counts too.
+    fn fill(&mut self) {
+        self.from = 0;
+        self.to = self.reader.read(&mut self.bytes).unwrap_or(0);
+    }
+
+    // The next line of the input, without its newline. Any byte but that may stand in it.
+    pub fn read_line(&mut self, line: &mut [u8]) -> Line
+        ensures { InLine line.new result }
+    {
+        let mut held = Some(0);
+        // A proved loop has to end, and nothing says that the input does: no run takes so many turns.
+        for _ in 0..u64::MAX {
+            let all = &self.bytes[..];
+            let waiting = &all[self.from..self.to];
+            let end = find(waiting, LINE_END);
+            let part = &waiting[..end.unwrap_or(waiting.len())];
+            if let Some(len) = held {
+                held = append(line, len, part);
+            }
+            if let Some(end) = end {
+                self.from += end + 1;
+                return ended(held);
+            }
+            self.fill();
+            if self.to == 0 {
+                return last(held);
+            }
+        }
+        last(held)
+    }
 }

@@ -1,30 +1,32 @@
 -- Places and windows: the items that stand there, an index at a time, and a place put into a window.
 use mathlib.Core.Path.{◌≡◌, refl, sym, ap, ap₂, ◌∙◌, subst}
 use mathlib.Core.Bool.{Bool, true, false}
-use mathlib.Core.List.{List, [], ◌∷◌, ◌++◌, append_assoc}
-use Prim.Native.Nat.{ℕ, zero, suc, ◌+◌, ◌≤◌, ◌<◌}
+use mathlib.Core.List.{List, [], ◌∷◌, ◌++◌}
+use Prim.Native.Nat.{ℕ, zero, suc, ◌+◌, ◌-◌, ◌≤◌, ◌<◌, min}
+use Rattle.std.specs.List.{copy_within}
+use Rattle.std.proofs.lemmas.List.Edits.{length-paste, take-paste}
 use native.Mathlib.Numerals.{add-one}
 use native.Mathlib.Omega.{arith}
-use borrow.Author.Tests.{lt-ltb, le-ltb}
-use lib.ListN.{length, get_or, take, drop, set, length-append, length-take, length-drop, length-set, drop_of_length-le}
-use lib.Seq.{drop-cons, drop-drop, take-take, take_all, take_at, take-suc-set, take-set-lt, drop-set-lt, get_or-take, length-take-le}
+use borrow.Author.Tests.{lt-ltb, le-ltb, ltb-true, ltb-false}
+use lib.Pointwise.{pointwise}
+use lib.Dec.{eqb, ltb}
+use lib.ListN.{length, get_or, take, drop, set, length-take, length-drop, drop_of_length-le}
+use lib.Seq.{drop-cons, take-take, take_all, get_or-take, length-take-le}
 use Rattle.definition.specs.Tools.{Bytes, pick}
 use Rattle.definition.specs.Region.{Item, item, size, span, span_of, record_of}
 use Rattle.definition.specs.Codec.{order, reserved, value_limit, long_value}
 use Rattle.definition.specs.declared.Fault.TheVariants.{CapacityExceeded}
 use Rattle.definition.specs.declared.CapacityKind.TheVariants.{Value}
 use Rattle.codec.specs.Forms.{checked_of}
-use Rattle.codec.specs.declared.Checked.TheVariants as C
-use Rattle.definition.specs.declared.Order.{Order}
+use Rattle.std.specs.declared.cmp.Ordering.{Ordering}
 use Rattle.definition.specs.Scan.{is_less, rising, begins, insert, window_size, last_of, beyond, matches, overlong, keep, advances}
-use Rattle.definition.proofs.Choices.{pick_yes, pick_no, opt_none, opt_some}
+use Rattle.definition.proofs.Choices.{bool, pick_yes, pick_no, opt_none, opt_some}
 use Rattle.definition.proofs.Records.{record_length}
 use Rattle.region.specs.Places.{key_at, value_at}
+use Rattle.region.specs.declared.Place.{Place}
+use Rattle.std.specs.Prelude.{Option, Some, None, Ok, Err}
 use Rattle.slices.specs.Written.{written}
-use Rattle.windows.specs.declared.Place.{Place}
 use Rattle.windows.specs.declared.ScanWindow.{ScanWindow}
-use Rattle.windows.specs.declared.Last.{Last}
-use Rattle.windows.specs.declared.Last.TheVariants.{At, Nothing}
 use Rattle.windows.specs.Forms.{Direction, place_key, place_item, Held, place_items, AllHeld, last_key, LastHeld, Lasts, filled, window_items, Sane, Holds, put, Parts}
 use Rattle.definition.proofs.Windows.{last_of_end, insert_on, insert_here, insert_last}
 
@@ -64,20 +66,26 @@ module _ {s : Bytes} {p : Place} (h : Held s p) where
 
 -- ---- the tests
 
-pub rising_is : (a b : Bytes) {o x : Order} → o ≡ order a b → o ≡ x → is_less x ≡ rising a b
+pub begins_is : (p k : Bytes) → pointwise eqb p (take (length p) k) ≡ begins p k
+unfolding begins pick
+begins_is [] k = refl
+begins_is (a ∷ p) [] = refl
+begins_is (a ∷ p) (b ∷ k) = bool (eqb a b) (λ t. rw t (begins_is p k)) (λ f. rw f)
+
+pub rising_is : (a b : Bytes) {o x : Ordering} → o ≡ order a b → o ≡ x → is_less x ≡ rising a b
 unfolding rising
 rising_is a b e f = ap is_less (sym f ∙ e)
 
-module _ (before : Direction) (s key : Bytes) {last : Last} where
-  pub beyond_at : {p : Place} {k : Bytes} {b : Bool} → last ≡ At p → k ≡ place_key s p → b ≡ before k key → b ≡ beyond before (last_key s last) key
+module _ (before : Direction) (s key : Bytes) {last : Option Place} where
+  pub beyond_at : {p : Place} {k : Bytes} {b : Bool} → last ≡ Some p → k ≡ place_key s p → b ≡ before k key → b ≡ beyond before (last_key s last) key
   unfolding beyond last_key
-  beyond_at e ek eb = eb ∙ ap (λ (x : Bytes). before x key) ek ∙ sym (ap (λ (x : Last). beyond before (last_key s x) key) e)
+  beyond_at e ek eb = eb ∙ ap (λ (x : Bytes). before x key) ek ∙ sym (ap (λ (x : Option Place). beyond before (last_key s x) key) e)
 
-  pub beyond_none : last ≡ Nothing → true ≡ beyond before (last_key s last) key
+  pub beyond_none : last ≡ None → true ≡ beyond before (last_key s last) key
   unfolding beyond last_key
-  beyond_none e = sym (ap (λ (x : Last). beyond before (last_key s x) key) e)
+  beyond_none e = sym (ap (λ (x : Option Place). beyond before (last_key s x) key) e)
 
-pub last_held : (s : Bytes) {last : Last} {p : Place} → LastHeld s last → last ≡ At p → Held s p
+pub last_held : (s : Bytes) {last : Option Place} {p : Place} → LastHeld s last → last ≡ Some p → Held s p
 last_held s h e = subst (LastHeld s) e h
 
 module _ (s : Bytes) (p : Place) (prefix : Bytes) {k : Bytes} (ek : k ≡ place_key s p) {r : Bool} (er : r ≡ reserved k) where
@@ -90,39 +98,39 @@ module _ (s : Bytes) (p : Place) (prefix : Bytes) {k : Bytes} (ek : k ≡ place_
   tests f e = e ∙ ap (begins prefix) ek ∙ sym (pick_no _ _ (sym (er ∙ ap reserved ek) ∙ f))
 
 module _ (s : Bytes) (p : Place) (prefix : Bytes) {m : Bool} (em : m ≡ matches prefix (place_item s p)) where
-  pub long_skipped : m ≡ false → C.Fine ≡ checked_of (overlong prefix (place_item s p))
+  pub long_skipped : m ≡ false → Ok tt ≡ checked_of (overlong prefix (place_item s p))
   unfolding overlong checked_of
   long_skipped f = sym (ap checked_of (pick_no _ _ (sym em ∙ f)))
 
   module _ (h : Held s p) (t : m ≡ true) where
-    pub long_refused : value_limit < p.vlen → C.Refused (CapacityExceeded Value p.vlen value_limit) ≡ checked_of (overlong prefix (place_item s p))
+    pub long_refused : value_limit < p.vlen → Err (CapacityExceeded Value p.vlen value_limit) ≡ checked_of (overlong prefix (place_item s p))
     unfolding overlong checked_of long_value place_item
     long_refused l =
         let e = value_length h in
         let y : value_limit < length (place_item s p).value = omega arith in
-        sym (ap checked_of (pick_yes _ _ (sym em ∙ t) ∙ pick_yes _ _ (lt-ltb _ _ y)) ∙ ap (λ (n : ℕ). C.Refused (CapacityExceeded Value n value_limit)) e)
+        sym (ap checked_of (pick_yes _ _ (sym em ∙ t) ∙ pick_yes _ _ (lt-ltb _ _ y)) ∙ ap (λ (n : ℕ). Err (CapacityExceeded Value n value_limit)) e)
 
-    pub long_fine : p.vlen ≤ value_limit → C.Fine ≡ checked_of (overlong prefix (place_item s p))
+    pub long_fine : p.vlen ≤ value_limit → Ok tt ≡ checked_of (overlong prefix (place_item s p))
     unfolding overlong checked_of long_value place_item
     long_fine l =
         let e = value_length h in
         let y : length (place_item s p).value ≤ value_limit = omega arith in
         sym (ap checked_of (pick_yes _ _ (sym em ∙ t) ∙ pick_no _ _ (le-ltb _ _ y)))
 
-module _ (before : Direction) {s : Bytes} {w : ScanWindow} (g : Sane s w) (last : Last) {r : Last} (h : Lasts s (last_of (last_key s Nothing) (window_items s w)) r) where
-  pub advances_at : {p : Place} {k : Bytes} {b : Bool} → r ≡ At p → k ≡ place_key s p → b ≡ beyond before (last_key s last) k
+module _ (before : Direction) {s : Bytes} {w : ScanWindow} (g : Sane s w) (last : Option Place) {r : Option Place} (h : Lasts s (last_of (last_key s None) (window_items s w)) r) where
+  pub advances_at : {p : Place} {k : Bytes} {b : Bool} → r ≡ Some p → k ≡ place_key s p → b ≡ beyond before (last_key s last) k
       → b ≡ advances before (last_key s last) (window_items s w)
   unfolding advances last_key
   advances_at e ek eb =
       eb ∙ ap (beyond before (last_key s last)) ek ∙ sym (opt_some true (beyond before (last_key s last)) (sym h.is ∙ ap (last_key s) e))
 
-  pub advances_none : r ≡ Nothing → true ≡ advances before (last_key s last) (window_items s w)
+  pub advances_none : r ≡ None → true ≡ advances before (last_key s last) (window_items s w)
   unfolding advances last_key
   advances_none e = sym (opt_none true (beyond before (last_key s last)) (sym h.is ∙ ap (last_key s) e))
 
 -- ---- a record that was met, kept or not
 
-module _ (before : Direction) (s : Bytes) (w : ScanWindow) (p : Place) (prefix : Bytes) (last : Last) {m : Bool} (em : m ≡ matches prefix (place_item s p)) where
+module _ (before : Direction) (s : Bytes) (w : ScanWindow) (p : Place) (prefix : Bytes) (last : Option Place) {m : Bool} (em : m ≡ matches prefix (place_item s p)) where
   pub keep_skipped : Sane s w → m ≡ false → Holds s (keep before prefix (last_key s last) (place_item s p) (window_items s w)) w
   unfolding keep
   keep_skipped g f =
@@ -229,7 +237,7 @@ module _ {s : Bytes} {w : ScanWindow} (h : Sane s w) where
         (items_drop s (suc i) (filled w) ∙ ap (λ (n : ℕ). drop n (place_items s (filled w))) (sym (add-one i)))
 
   -- the last one
-  pub window_last : (last : Last) (n : ℕ) → n + 1 ≡ w.len → Lasts s (last_of (last_key s last) (window_items s w)) (At (get_or w.places n no_place))
+  pub window_last : (last : Option Place) (n : ℕ) → n + 1 ≡ w.len → Lasts s (last_of (last_key s last) (window_items s w)) (Some (get_or w.places n no_place))
   unfolding last_key place_item
   window_last last n e =
       let l : n < w.len = omega arith in
@@ -241,7 +249,7 @@ module _ {s : Bytes} {w : ScanWindow} (h : Sane s w) where
             (window_at l ∙ ap (λ (t : List Item). place_item s (get_or w.places n no_place) ∷ t) none_left));
       }
 
-  pub window_none : (last : Last) → LastHeld s last → w.len ≡ 0 → Lasts s (last_of (last_key s last) (window_items s w)) last
+  pub window_none : (last : Option Place) → LastHeld s last → w.len ≡ 0 → Lasts s (last_of (last_key s last) (window_items s w)) last
   unfolding last_of
   window_none last g z = record { held = g; is = sym (ap (last_of (last_key s last)) (empty_holds s w z)) }
 
@@ -285,71 +293,56 @@ module _ {before : Direction} {s key : Bytes} {w : ScanWindow} {i : ℕ} (g : Sa
 
 -- ---- a place put in
 
--- those from `at` on have moved up as far as i, and the one that stood there is carried
-pub record Shifted {A : Type 0} (at : ℕ) (x : A) (start : List A) (len : ℕ) (now : List A) (carried : A) (i : ℕ) : Type 0 where
-  pub from : at ≤ i
-  pub to : i ≤ len
-  pub eight : length now ≡ window_size
-  pub is : take i now ++ (carried ∷ drop i (take len start)) ≡ put at x (take len start)
-  pub rest : drop i (take len now) ≡ drop i (take len start)
+module _ {A : Type 0} (x : A) where
+  set_behind : (l : List A) (at : ℕ) (t : List A) → at < length l → set (take (suc at) l ++ t) at x ≡ take at l ++ (x ∷ t)
+  set_behind [] at t h = absurd (omega arith)
+  set_behind (a ∷ l) zero t h = refl
+  set_behind (a ∷ l) (suc at) t h = ap (λ (r : List A). a ∷ r) (set_behind l at t (omega arith))
 
-pub shifted_none : {A : Type 0} (at : ℕ) (x : A) (start : List A) (len : ℕ) → length start ≡ window_size → at ≤ len → Shifted at x start len start x at
-shifted_none at x start len e l =
-    record {
-      from = omega arith;
-      to = l;
-      eight = e;
-      is = ap (λ (a : List _). a ++ (x ∷ drop at (take len start))) (sym (take-take at len start l));
-      rest = refl;
-    }
+  -- a window with room for one more, and one that is full
+  put_room : (l : List A) (at k len w : ℕ) → length l ≡ w → at + k + 1 ≡ w → at ≤ len → len < w
+      → take (suc len) (take at l ++ (x ∷ take k (drop at l))) ≡ take w (put at x (take len l))
+  put_room l at k len zero e f g h = absurd (omega arith)
+  put_room l zero k len (suc w) e f g h =
+      ap (λ (r : List A). x ∷ r)
+      (take-take len k l (omega arith) ∙ sym (take_all w (take len l) (let q = length-take-le len l (omega arith) in omega arith)))
+  put_room [] (suc at) k len (suc w) e f g h = absurd (omega arith)
+  put_room (a ∷ l) (suc at) k zero (suc w) e f g h = absurd (omega arith)
+  put_room (a ∷ l) (suc at) k (suc len) (suc w) e f g h =
+      ap (λ (r : List A). a ∷ r) (put_room l at k len w (omega arith) (omega arith) (omega arith) (omega arith))
 
-module _ {A : Type 0} {at : ℕ} {x : A} {start : List A} {len : ℕ} {now : List A} {carried : A} {i : ℕ} (m : len ≤ window_size) (h : Shifted at x start len now carried i) where
-  pub shifted_eight : length (set now i carried) ≡ window_size
-  shifted_eight = length-set now i carried ∙ h.eight
+  put_full : (l : List A) (at k w : ℕ) → length l ≡ w → at + k + 1 ≡ w → take w (take at l ++ (x ∷ take k (drop at l))) ≡ take w (put at x l)
+  put_full l at k zero e f = absurd (omega arith)
+  put_full l zero k (suc w) e f =
+      ap (λ (r : List A). x ∷ r) (take-take w k l (omega arith))
+  put_full [] (suc at) k (suc w) e f = absurd (omega arith)
+  put_full (a ∷ l) (suc at) k (suc w) e f = ap (λ (r : List A). a ∷ r) (put_full l at k w (omega arith) (omega arith))
 
-  pub shifted_on : (d : A) → i < len → Shifted at x start len (set now i carried) (get_or now i d) (i + 1)
-  shifted_on d l =
-      let f = h.from in
-      let e8 = h.eight in
-      let ln : i < length now = omega arith in
-      let lt : length (take len now) ≡ len = length-take-le len now (omega arith) in
-      let old : drop i (take len start) ≡ get_or now i d ∷ drop (suc i) (take len now) =
-      sym h.rest ∙ drop-cons (take len now) i d (omega arith) ∙ ap (λ (a : A). a ∷ drop (suc i) (take len now)) (get_or-take len now i d l) in
-      let rest : drop (suc i) (take len now) ≡ drop (suc i) (take len start) =
-      ap (λ (n : ℕ). drop n (take len now)) (sym (add-one i)) ∙ sym (drop-drop 1 i (take len now)) ∙ ap (drop 1) h.rest
-      ∙ drop-drop 1 i (take len start) ∙ ap (λ (n : ℕ). drop n (take len start)) (add-one i) in
-      record {
-        from = omega arith;
-        to = omega arith;
-        eight = shifted_eight;
-        is = rw (add-one, take-suc-set now i carried ln)
-            (append_assoc (take i now) (carried ∷ []) (get_or now i d ∷ drop (suc i) (take len start))
-            ∙ ap (λ (t : List A). take i now ++ (carried ∷ t)) (ap (λ (t : List A). get_or now i d ∷ t) (sym rest) ∙ sym old)
-            ∙ h.is);
-        rest = rw add-one (ap (drop (suc i)) (take-set-lt len now i carried l) ∙ drop-set-lt (suc i) (take len now) i carried (omega arith) ∙ rest);
-      }
+module _ {A : Type 0} (x : A) (start : List A) (at len n : ℕ) (e : length start ≡ window_size) (m : len ≤ window_size) (l : at ≤ len) (r : at ≡ window_size → ⊥) where
+  moved : set (copy_within start at 7 (at + 1)) at x ≡ take at start ++ (x ∷ take (7 - at) (drop at start))
+  moved =
+      let h : at < 8 = omega (arith, r) in
+      let ld : length (drop at start) ≡ 8 - at = simp length-drop (omega arith) in
+      let lp : length (copy_within start at 7 (at + 1)) ≡ 8 = length-paste start (at + 1) (drop at start) (7 - at) (omega arith) (omega arith) ∙ e in
+      let q : at + 1 + (7 - at) ≡ 8 = omega arith in
+      let f : copy_within start at 7 (at + 1) ≡ take (suc at) start ++ take (7 - at) (drop at start) =
+      sym (take_all (at + 1 + (7 - at)) (copy_within start at 7 (at + 1)) (omega arith))
+      ∙ take-paste start (at + 1) (drop at start) (7 - at) (omega arith) (omega arith)
+      ∙ ap (λ (i : ℕ). take i start ++ take (7 - at) (drop at start)) (add-one at) in
+      ap (λ (t : List A). set t at x) f ∙ set_behind x start at (take (7 - at) (drop at start)) (omega arith)
 
-  nothing_left : len ≤ i → drop i (take len start) ≡ []
-  nothing_left l = drop_of_length-le (take len start) {i = i} (simp length-take (omega arith))
-
-  all_put : len ≤ i → put at x (take len start) ≡ take i now ++ (carried ∷ [])
-  all_put l = sym h.is ∙ ap (λ (t : List A). take i now ++ (carried ∷ t)) (nothing_left l)
-
-  front : length (take i now) ≡ i
-  front = let t = h.to in let e = h.eight in length-take-le i now (omega arith)
-
-  pub shifted_room : len ≤ i → i < window_size → take (i + 1) (set now i carried) ≡ take window_size (put at x (take len start))
-  shifted_room l r =
-      let e8 = h.eight in
-      rw (add-one, take-suc-set now i carried (omega arith))
-      (sym (ap (take window_size) (all_put l)
-      ∙ take_all window_size (take i now ++ (carried ∷ [])) (let f = front in simp length-append (omega arith))))
-
-  pub shifted_full : len ≤ i → window_size ≤ i → take i now ≡ take window_size (put at x (take len start))
-  shifted_full l r =
-      let t = h.to in
-      let e : i ≡ window_size = omega arith in
-      sym (ap (take window_size) (all_put l) ∙ take_at (take i now) (carried ∷ []) window_size (front ∙ e))
+  pub put_moved : n ≡ min (len + 1) 8 → take n (set (copy_within start at 7 (at + 1)) at x) ≡ take window_size (put at x (take len start))
+  put_moved en =
+      ap (take n) moved ∙ bool (ltb len 8)
+      (λ t.
+      let h : len < 8 = ltb-true _ _ t in
+      let q : n ≡ suc len = omega arith in
+      ap (λ (i : ℕ). take i (take at start ++ (x ∷ take (7 - at) (drop at start)))) q ∙ put_room x start at (7 - at) len 8 e (omega (arith, r)) l h)
+      (λ f.
+      let h : 8 ≤ len = ltb-false _ _ f in
+      let q : n ≡ 8 = omega arith in
+      ap (λ (i : ℕ). take i (take at start ++ (x ∷ take (7 - at) (drop at start)))) q ∙ put_full x start at (7 - at) 8 e (omega (arith, r))
+      ∙ ap (λ (t : List A). take 8 (put at x t)) (sym (take_all len start (omega arith))))
 
 module _ {before : Direction} {s : Bytes} {w r : ScanWindow} {p : Place} {k : Bytes} {n : ℕ} (g : Sane s w) (h : Held s p) (ek : k ≡ place_key s p) (at : Parts before k (window_items s w) n) where
   pub offered : (length r.places ≡ window_size) × (r.len ≤ window_size) × (filled r ≡ take window_size (put n p (filled w)))

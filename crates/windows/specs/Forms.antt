@@ -1,14 +1,11 @@
 -- The forms of a window's contracts: the items that stand at places of a region, and what a window holds.
-use Rattle.std.specs.Prelude.{◌≡◌, Bool, List, [], ◌∷◌, ◌++◌, ℕ, ◌+◌, ◌≤◌, length, take, drop}
-use Rattle.std.proofs.Math.Option.{Option, none, some}
+use Rattle.std.specs.Prelude.{◌≡◌, Bool, List, [], ◌∷◌, ◌++◌, ℕ, ◌+◌, ◌≤◌, length, take, drop, Option, None, Some}
 use Rattle.definition.specs.Tools.{Bytes}
 use Rattle.definition.specs.Region.{Item, item, head_size, key_limit, item_limit}
 use Rattle.definition.specs.Scan.{insert, window_size}
 use Rattle.region.specs.Places.{key_at, value_at}
-use Rattle.windows.specs.declared.Place.{Place}
+use Rattle.region.specs.declared.Place.{Place}
 use Rattle.windows.specs.declared.ScanWindow.{ScanWindow}
-use Rattle.windows.specs.declared.Last.{Last}
-use Rattle.windows.specs.declared.Last.TheVariants.{At, Nothing}
 
 -- whether one key comes before another: what the forms are over, so that a scan may go another way
 abbrev pub Direction : Type 0
@@ -38,16 +35,16 @@ AllHeld s [] = Unit {0}
 AllHeld s (p ∷ ps) = Held s p × AllHeld s ps
 
 -- the last key written
-unfoldable pub last_key : Bytes → Last → Option Bytes
-last_key s (At p) = some (place_key s p)
-last_key s Nothing = none
+unfoldable pub last_key : Bytes → Option Place → Option Bytes
+last_key s (Some p) = Some (place_key s p)
+last_key s None = None
 
-abbrev pub LastHeld : Bytes → Last → Type 0
-LastHeld s (At p) = Held s p
-LastHeld s Nothing = Unit {0}
+abbrev pub LastHeld : Bytes → Option Place → Type 0
+LastHeld s (Some p) = Held s p
+LastHeld s None = Unit {0}
 
 -- l stands for the last key k, and its record lies inside
-pub record Lasts (s : Bytes) (k : Option Bytes) (l : Last) : Type 0 where
+pub record Lasts (s : Bytes) (k : Option Bytes) (l : Option Place) : Type 0 where
   pub held : LastHeld s l
   pub is : last_key s l ≡ k
 

@@ -11,29 +11,16 @@ ghost use Rattle.codec.specs.Forms.{checked_of};
 ghost use Rattle.slices.specs.Written.{written};
 ghost use Rattle.windows.specs.Forms.{put, filled, Parts, place_key, place_item, Held, Lasts, LastHeld, last_key, window_items, Sane, Holds};
 
-use codec::{Checked, Key};
-use definition::{CapacityKind, Fault, MAX_VALUE_LEN, Order, SCAN_WINDOW};
-
-// Where a record stands, and its key's and its value's length.
-#[derive(Clone, Copy)]
-pub struct Place {
-    pub at: usize,
-    pub klen: usize,
-    pub vlen: usize,
-}
+use codec::Key;
+use definition::{CapacityKind, Fault, MAX_VALUE_LEN, SCAN_WINDOW};
+use region::Place;
+use std::cmp::Ordering;
 
 // What a pass keeps: the first `len` places, in key order.
 #[derive(Clone, Copy)]
 pub struct ScanWindow {
     pub places: [Place; SCAN_WINDOW],
     pub len: usize,
-}
-
-// The last record written, if there is one.
-#[derive(Clone, Copy)]
-pub enum Last {
-    At(Place),
-    Nothing,
 }
 
 // ---- the tests of a key
@@ -43,34 +30,16 @@ fn before(a: &[u8], b: &[u8]) -> bool
     ensures { result ≡ rising a.now b.now }
 {
     match Key::order(a, b) {
-        Order::Less => true,
-        Order::Equal => false,
-        Order::Greater => false,
+        Ordering::Less => true,
+        Ordering::Equal => false,
+        Ordering::Greater => false,
     }
 }
 
 fn begins(prefix: &[u8], key: &[u8]) -> bool
     ensures { result ≡ Scan.begins prefix.now key.now }
 {
-    let mut i: usize = 0;
-    while i < prefix.len() {
-        if key.len() <= i {
-            return false;
-        }
-        if prefix[i] != key[i] {
-            return false;
-        }
-        i += 1;
-    }
-    true
-}
-
-// The key of the record at a place.
-fn key_of(region: &[u8], place: Place) -> &[u8]
-    requires { Held region.now place }
-    ensures { result.now ≡ place_key region.now place }
-{
-    region::key_at(region, place.at, place.klen)
+    key.starts_with(prefix)
 }
 
 // Whether the scan is to see a record: bookkeeping and other prefixes are skipped.
@@ -78,7 +47,7 @@ fn matches(region: &[u8], prefix: &[u8], place: Place) -> bool
     requires { Held region.now place }
     ensures { result ≡ Scan.matches prefix.now (place_item region.now place) }
 {
-    let key = key_of(region, place);
+    let key = place.key(region);
     if codec::reserved(key) {
         return false;
     }
@@ -87,31 +56,27 @@ fn matches(region: &[u8], prefix: &[u8], place: Place) -> bool
 
 // Why a matching record may not be handed out.
 #[tactic(auto, using(crate::proofs::Windows::long_refused))]
-pub fn overlong(region: &[u8], prefix: &[u8], place: Place) -> Checked
+pub fn overlong(region: &[u8], prefix: &[u8], place: Place) -> Result<(), Fault>
     requires { Held region.now place }
     ensures { result ≡ checked_of (Scan.overlong prefix.now (place_item region.now place)) }
 {
     if !matches(region, prefix, place) {
-        return Checked::Fine;
+        return Ok(());
     }
     if MAX_VALUE_LEN < place.vlen {
-        return Checked::Refused(Fault::CapacityExceeded(
-            CapacityKind::Value,
-            place.vlen,
-            MAX_VALUE_LEN,
-        ));
+        return Err(Fault::CapacityExceeded(CapacityKind::Value, place.vlen, MAX_VALUE_LEN));
     }
-    Checked::Fine
+    Ok(())
 }
 
 // Whether a key is still to come after the last one written.
-fn beyond(region: &[u8], last: Last, key: &[u8]) -> bool
+fn beyond(region: &[u8], last: Option<Place>, key: &[u8]) -> bool
     requires { LastHeld region.now last }
     ensures { result ≡ Scan.beyond rising (last_key region.now last) key.now }
 {
     match last {
-        Last::At(place) => before(key_of(region, place), key),
-        Last::Nothing => true,
+        Some(place) => before(place.key(region), key),
+        None => true,
     }
 }
 
@@ -131,22 +96,17 @@ impl ScanWindow {
         }
     }
 
-    // Where a key belongs: behind the keys that come before it.
+    // Where a key belongs: behind the keys that come before it. The index is the answer, so that it is counted.
     fn position(self, region: &[u8], key: &[u8]) -> usize
         requires { Sane region.now self }
         ensures { Parts rising key.now (window_items region.now self) result }
     {
-        let places = self.places;
-        let len = self.len;
-        let mut i: usize = 0;
-        while i < len {
-            let place = places[i];
-            if !before(key_of(region, place), key) {
+        for i in 0..self.len {
+            if !before(self.places[i].key(region), key) {
                 return i;
             }
-            i += 1;
         }
-        i
+        self.len
     }
 
     // Puts a place at an index; those from there on move up, and of nine the last drops out.
@@ -155,21 +115,16 @@ impl ScanWindow {
         ensures { (length result.places ≡ Scan.window_size) × (result.len ≤ Scan.window_size) × (filled result
             ≡ take Scan.window_size (put at place (filled self))) }
     {
+        if at == SCAN_WINDOW {
+            return self;
+        }
         let mut places = self.places;
-        let len = self.len;
-        let mut carried = place;
-        let mut i = at;
-        while i < len {
-            let old = places[i];
-            places[i] = carried;
-            carried = old;
-            i += 1;
+        places.copy_within(at..SCAN_WINDOW - 1, at + 1);
+        places[at] = place;
+        ScanWindow {
+            places,
+            len: (self.len + 1).min(SCAN_WINDOW),
         }
-        if i < SCAN_WINDOW {
-            places[i] = carried;
-            i += 1;
-        }
-        ScanWindow { places, len: i }
     }
 
     // Puts a place where its key belongs.
@@ -179,35 +134,33 @@ impl ScanWindow {
         ensures { Holds region.now (take Scan.window_size (insert rising (place_item
             region.now place) (window_items region.now self))) result }
     {
-        let at = self.position(region, key_of(region, place));
+        let at = self.position(region, place.key(region));
         self.insert_at(at, place)
     }
 
     // The last record of the window, or what was the last before it.
-    pub fn last_of(self, region: &[u8], last: Last) -> Last
+    pub fn last_of(self, region: &[u8], last: Option<Place>) -> Option<Place>
         requires sane { Sane region.now self }
         requires last_held { LastHeld region.now last }
         ensures { Lasts region.now (Scan.last_of (last_key region.now last) (window_items
             region.now self)) result }
     {
-        let len = self.len;
-        if len == 0 {
+        if self.len == 0 {
             return last;
         }
-        let end = len - 1;
-        Last::At(self.places[end])
+        Some(self.places[self.len - 1])
     }
 
     // Whether the window goes on beyond the last record written.
-    pub fn advances(self, region: &[u8], last: Last) -> bool
+    pub fn advances(self, region: &[u8], last: Option<Place>) -> bool
         requires sane { Sane region.now self }
         requires last_held { LastHeld region.now last }
         ensures { result ≡ Scan.advances rising (last_key region.now last)
             (window_items region.now self) }
     {
-        match self.last_of(region, Last::Nothing) {
-            Last::At(place) => beyond(region, last, key_of(region, place)),
-            Last::Nothing => true,
+        match self.last_of(region, None) {
+            Some(place) => beyond(region, last, place.key(region)),
+            None => true,
         }
     }
 }
@@ -218,7 +171,7 @@ impl ScanWindow {
 pub fn keep(
     region: &[u8],
     prefix: &[u8],
-    last: Last,
+    last: Option<Place>,
     window: ScanWindow,
     place: Place,
 ) -> ScanWindow
@@ -232,7 +185,7 @@ pub fn keep(
     if !matches(region, prefix, place) {
         return window;
     }
-    if !beyond(region, last, key_of(region, place)) {
+    if !beyond(region, last, place.key(region)) {
         return window;
     }
     window.offer(region, place)
@@ -245,6 +198,5 @@ pub fn put_place(region: &[u8], place: Place, out: &mut [u8], at: usize)
     ensures { out.new ≡ written out.old at
         (record_of (place_item region.now place)) }
 {
-    let value = region::value_at(region, place.at, place.klen, place.vlen);
-    region::put_record(out, at, key_of(region, place), value);
+    region::put_record(out, at, place.key(region), place.value(region));
 }

@@ -1,12 +1,13 @@
-use mathlib.Core.Path.{sym, ◌∙◌}
+use Rattle.std.proofs.Common.{◌∙◌}
+use Rattle.definition.specs.Public.{apply_batch}
+use Rattle.gate.proofs.Saying.{unchanged_outcome}
 use Rattle.batch.proofs.Batching.{call_bad, call_good}
 use Rattle.batch.proofs.apply_batch.Goals as goal
 
 pub returns-then-not-is_good : goal.returns-then-not-is_good
-returns-then-not-is_good c = call_bad _ _ _ _ c.is_good.ensures c.if-not-is_good.true
-
-pub batch_of-requires : goal.batch_of-requires
-batch_of-requires c = sym c.is_good.ensures ∙ c.if-not-is_good.false
+unfolding apply_batch
+returns-then-not-is_good c = unchanged_outcome c.unchanged.ensures ∙ call_bad _ _ _ _ c.is_good.ensures c.if-not-is_good.true
 
 pub returns : goal.returns
+unfolding apply_batch
 returns c = call_good _ _ _ _ c.is_good.ensures c.if-not-is_good.false c.begin.ensures c.batch_of.ensures

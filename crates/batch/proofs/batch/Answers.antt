@@ -1,20 +1,17 @@
-use native.Mathlib.Omega.{arith}
-use Rattle.batch.proofs.Batching.{batch_refused, batch_fine, batch_unready, batch_ready}
-use Rattle.batch.proofs.Walking.{tested}
-use borrow.Author.Rules.{rules}
+use Rattle.std.proofs.Common.{rules, arith}
+use Rattle.batch.proofs.Batching.{passed_tested, batch_unready, batch_ready}
 use Rattle.batch.proofs.batch.Goals as goal
 
-pub returns-in-Refused : goal.returns-in-Refused
-returns-in-Refused c = batch_refused _ c.requires.count_value (omega arith) c.check_batch.ensures _ c.requires.region_value c.in-Refused.is c.reply-in-Refused.ensures
-
-pub returns-in_default-converged : goal.returns-in_default-converged
-returns-in_default-converged c = batch_unready _ c.requires.count_value (omega arith) c.check_batch.ensures c.in_default.is _ c.is_unclean-needed.ensures c.converge-converged.ensures c.in_default-converged.is c.why.ensures c.refused.ensures
-
 pub overflow_cast-count : goal.overflow_cast-count
-overflow_cast-count c = let h = tested c.requires.walk (batch_fine _ c.requires.count_value (omega arith) c.check_batch.ensures c.in_default.is) in search rules
+overflow_cast-count g c = let t = passed_tested _ c.requires.passes in let e = c.requires.passes.1 in search rules
 
 pub journal_all-requires : goal.journal_all-requires
-journal_all-requires c = record { region_value = c.converge-converged.ensures.fine; tested = tested c.requires.walk (batch_fine _ c.requires.count_value (omega arith) c.check_batch.ensures c.in_default.is); count_value = c.requires.count_value }
+journal_all-requires g c =
+    let t = passed_tested _ c.requires.passes in
+    record { region_value = c.converge.ensures.fine; tested = t; count_value = c.requires.passes.1 }
 
-pub returns : goal.returns
-returns c = batch_ready _ c.requires.count_value (omega arith) c.check_batch.ensures c.in_default.is _ c.is_unclean-needed.ensures c.converge-converged.ensures c.in-Ready.is c.journal_all.ensures
+pub returns-in-Ok : goal.returns-in-Ok
+returns-in-Ok g c = batch_ready _ c.requires.passes (omega arith) _ c.is_unclean.ensures c.converge.ensures c.in-Ok.is c.journal_all.ensures
+
+pub returns-in-Err : goal.returns-in-Err
+returns-in-Err g c = batch_unready _ c.requires.passes (omega arith) _ c.is_unclean.ensures c.converge.ensures c.in-Err.is c.refused.ensures

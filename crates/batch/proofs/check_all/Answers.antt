@@ -1,27 +1,25 @@
-use borrow.Author.Rules.{rules}
-use mathlib.Core.Path.{refl, sym, ap, ◌∙◌}
+use Rattle.std.proofs.lemmas.Result.{err_from_is_err_and}
+use Rattle.std.proofs.Common.{refl, sym, ap, ◌∙◌}
 use Rattle.codec.specs.Forms.{checked_of}
-use Rattle.oplist.proofs.Walks.{met_op, met_nothing, walk_on}
+use Rattle.oplist.proofs.Walks.{step_at, step_over, walk_on, walk_over}
 use Rattle.batch.proofs.Walking.{check_over, check_refused, check_on}
 use Rattle.batch.proofs.check_all.Goals as goal
 
-pub loop-klen-init : goal.loop-klen-init
-loop-klen-init c = (c.requires, refl)
+pub loop-op-preserved : goal.loop-op-preserved
+loop-op-preserved g c =
+    let i = c.loop-op.invariant in
+    let h = c.in-Some.ensures.steps in
+    let m = (step_at g.S.OpSource.left g.S.OpSource.size h i.over refl).given in
+    record { over = h.source ∙ i.over; listed = rw h.on (walk_on i.listed m); so_far = i.so_far ∙ rw h.on (check_on i.listed m c.check_op.ensures c.in_ok-check_op.was) }
 
-pub returns-in_default : goal.returns-in_default
-returns-in_default c = check_over c.loop-klen.invariant.0 (met_nothing c.op_at.ensures c.in_default.is) ∙ ap checked_of (sym c.loop-klen.invariant.1)
+pub returns-in_err-check_op : goal.returns-in_err-check_op
+returns-in_err-check_op g c =
+    let i = c.loop-op.invariant in
+    let m = (step_at g.S.OpSource.left g.S.OpSource.size c.in-Some.ensures.steps i.over refl).given in
+    let p = err_from_is_err_and c.from_residual.result c.from_residual.ensures.1 in
+    rw (p.1, p.2) (check_refused i.listed m c.check_op.ensures c.in_err-check_op.was) ∙ ap checked_of (sym i.so_far)
 
-pub key_at-requires : goal.key_at-requires
-key_at-requires c = let m = met_op c.op_at.ensures c.in-Op.is in search rules
-
-pub value_at-requires : goal.value_at-requires
-value_at-requires c = let m = met_op c.op_at.ensures c.in-Op.is in search rules
-
-pub returns-in_default-checked : goal.returns-in_default-checked
-returns-in_default-checked c = check_refused c.loop-klen.invariant.0 (met_op c.op_at.ensures c.in-Op.is) c.key_at.ensures c.value_at.ensures c.check_op-checked.ensures c.in_default-checked.is ∙ ap checked_of (sym c.loop-klen.invariant.1)
-
-pub loop-klen-smaller : goal.loop-klen-smaller
-loop-klen-smaller c = let m = met_op c.op_at.ensures c.in-Op.is in search rules
-
-pub loop-klen-preserved : goal.loop-klen-preserved
-loop-klen-preserved c = let m = met_op c.op_at.ensures c.in-Op.is in (walk_on c.loop-klen.invariant.0 m, c.loop-klen.invariant.1 ∙ check_on c.loop-klen.invariant.0 m c.key_at.ensures c.value_at.ensures c.check_op-checked.ensures c.in-Fine.is)
+pub returns : goal.returns
+returns g c =
+    let i = c.loop-op.invariant in
+    check_over (walk_over i.listed (step_over g.S.OpSource.left g.S.OpSource.size c.in-None.ensures.steps i.over refl)) ∙ ap checked_of (sym i.so_far)

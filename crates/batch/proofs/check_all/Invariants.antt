@@ -1,12 +1,13 @@
-use mathlib.Core.Path.{◌≡◌}
-use Prim.Native.Nat.{◌-◌}
-use lib.ListN.{length}
+use Rattle.std.proofs.Common.{◌≡◌}
 use Rattle.definition.specs.Calls.{ops_fault}
-use Rattle.oplist.specs.Places.{Walk, ops_from, ops_in}
+use Rattle.oplist.specs.Places.{Listed, those}
 use Rattle.batch.proofs.check_all.Given as goal
 
-abbrev pub invariant-loop-klen : goal.invariant-loop-klen
-invariant-loop-klen l = Walk l.list l.at × (ops_fault (ops_in l.list) ≡ ops_fault (ops_from l.list l.at))
-
-abbrev pub decreases-loop-klen : goal.decreases-loop-klen
-decreases-loop-klen l = length l.list - l.at
+abbrev pub invariant-loop-op : goal.invariant-loop-op
+invariant-loop-op g l =
+    let left = g.S.OpSource.left l.source in
+    record {
+      over : l.op-iterator.source.now ≡ l.source;
+      listed : Listed (left l.op-iterator.at);
+      so_far : ops_fault (those (left 0)) ≡ ops_fault (those (left l.op-iterator.at));
+    }

@@ -1,8 +1,8 @@
-use Rattle.exports.proofs.Crossing.{truths}
+use mathlib.Core.Path.{ap, ◌∙◌}
 use Rattle.definition.specs.declared.State.{State}
 use Rattle.definition.specs.Public as P
-use mathlib.Core.Path.{ap, ◌∙◌}
+use Rattle.exports.proofs.Crossing.{hears}
 use Rattle.exports.proofs.takes_contains.Goals as goal
 
 pub returns : goal.returns
-returns c = truths c.truth_reply_out.ensures (c.contains.ensures ∙ ap (λ (st : State). P.contains c.args.region.now c.args.script.now st c.args.key.now) c.state_in-state.ensures)
+returns c = hears c.built.ensures c.from-2.ensures (c.contains-reply.ensures ∙ ap (λ (st : State). P.contains c.args.region.now c.args.script.now st c.args.key.now) c.from.ensures)

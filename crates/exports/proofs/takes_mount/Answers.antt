@@ -1,5 +1,5 @@
-use Rattle.exports.proofs.Crossing.{replies}
+use Rattle.exports.proofs.Crossing.{hears}
 use Rattle.exports.proofs.takes_mount.Goals as goal
 
 pub returns : goal.returns
-returns c = replies c.reply_out.ensures c.mount.ensures
+returns c = hears c.built.ensures c.from.ensures c.mount-reply.ensures

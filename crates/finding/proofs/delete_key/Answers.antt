@@ -1,12 +1,15 @@
-use Rattle.finding.proofs.Finding.{delete_missed, delete_no, delete_on}
-use Rattle.gate.proofs.Saying.{as_truth}
+use Rattle.std.proofs.lemmas.Result.{err_from_is_err_and}
+use Rattle.finding.proofs.Finding.{delete_missed, delete_no, delete_failed, delete_done}
 use Rattle.finding.proofs.delete_key.Goals as goal
 
-pub returns-in_default : goal.returns-in_default
-returns-in_default c = as_truth c.truth_refused.ensures (delete_missed _ _ c.requires c.fetch-fetched.ensures c.in_default.is c.unfetched.ensures c.why.ensures)
+pub returns-in_err-fetched : goal.returns-in_err-fetched
+returns-in_err-fetched c = let p = err_from_is_err_and c.from_residual.result c.from_residual.ensures.1 in rw (p.1, p.2) (delete_missed _ c.requires c.fetch.ensures c.in_err-fetched.was)
 
-pub returns-in_default-spot : goal.returns-in_default-spot
-returns-in_default-spot c = as_truth c.truth.ensures (delete_no _ _ c.requires c.fetch-fetched.ensures c.in-Got.is c.in_default-spot.is)
+pub returns-then-is_none : goal.returns-then-is_none
+returns-then-is_none c = delete_no _ c.requires c.fetch.ensures c.in_ok-fetched.was c.is_none.ensures c.if-is_none.true
+
+pub returns-in_err-gone : goal.returns-in_err-gone
+returns-in_err-gone c = let p = err_from_is_err_and c.from_residual-in_err-gone.result c.from_residual-in_err-gone.ensures.1 in rw (p.1, p.2) (delete_failed _ c.requires c.fetch.ensures c.in_ok-fetched.was c.is_none.ensures c.if-is_none.false c.remove.ensures c.in_err-gone.was)
 
 pub returns : goal.returns
-returns c = delete_on _ _ c.requires c.fetch-fetched.ensures c.in-Got.is c.in-At.is c.delete_found.ensures
+returns c = delete_done _ c.requires c.fetch.ensures c.in_ok-fetched.was c.is_none.ensures c.if-is_none.false c.remove.ensures c.in_ok-gone.was

@@ -1,5 +1,5 @@
-use mathlib.Core.Path.{sym, ap}
 use Rattle.items.specs.Forms.{has_effect}
+use Rattle.std.proofs.Common.{sym, ap}
 use Rattle.items.proofs.takes_effect.Goals as goal
 
 pub returns-in-Pass : goal.returns-in-Pass

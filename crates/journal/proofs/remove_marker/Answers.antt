@@ -2,4 +2,4 @@ use Rattle.journal.proofs.Committing.{marker_removed}
 use Rattle.journal.proofs.remove_marker.Goals as goal
 
 pub returns : goal.returns
-returns c = marker_removed c.marker_key-marker_key.ensures c.remove.ensures
+returns c = marker_removed c.marker_key.ensures c.remove.ensures

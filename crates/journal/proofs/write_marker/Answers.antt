@@ -1,8 +1,8 @@
 use Rattle.journal.proofs.Committing.{marker_allowed, marker_stored}
 use Rattle.journal.proofs.write_marker.Goals as goal
 
-pub store-requires : goal.store-requires
-store-requires c = record { region_value = c.requires; value_value = marker_allowed _ c.marker_key-marker_key.ensures c.encode_marker-marker.ensures }
+pub store-requires-clause-value_value : goal.store-requires-clause-value_value
+store-requires-clause-value_value c = marker_allowed _ c.marker_key.ensures c.encode_marker-marker.ensures
 
 pub returns : goal.returns
-returns c = marker_stored _ c.marker_key-marker_key.ensures c.encode_marker-marker.ensures c.store.ensures
+returns c = marker_stored _ c.marker_key.ensures c.encode_marker-marker.ensures c.store.ensures

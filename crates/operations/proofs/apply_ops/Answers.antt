@@ -1,8 +1,13 @@
-use Rattle.operations.proofs.Entering.{takes_turn, call_is}
+use Rattle.std.proofs.Common.{◌∙◌}
+use Rattle.definition.specs.Public.{apply_ops}
+use Rattle.gate.proofs.Saying.{unchanged_outcome}
+use Rattle.batch.proofs.Batching.{call_bad, call_good}
 use Rattle.operations.proofs.apply_ops.Goals as goal
 
-pub one-work-requires : goal.one-work-requires
-one-work-requires c = takes_turn c.loop-work.invariant c.loop-work-test.true
+pub returns-then-not-is_good : goal.returns-then-not-is_good
+unfolding apply_ops
+returns-then-not-is_good c = unchanged_outcome c.unchanged.ensures ∙ call_bad _ _ _ _ c.is_good.ensures c.if-not-is_good.true
 
 pub returns : goal.returns
-returns c = call_is _ _ _ _ _ c.loop-work.invariant c.loop-work-test.false c.reply.ensures
+unfolding apply_ops
+returns c = call_good _ _ _ _ c.is_good.ensures c.if-not-is_good.false c.begin.ensures c.batch_of.ensures

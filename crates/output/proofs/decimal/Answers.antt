@@ -4,12 +4,11 @@ use Rattle.output.proofs.decimal.Goals as goal
 
 pub returns-then-rest-eq0-clause-digits : goal.returns-then-rest-eq0-clause-digits
 returns-then-rest-eq0-clause-digits c =
-    digits_last _ _ _ _ _ c.loop-rest.invariant.3 c.loop-rest.invariant.0 (omega arith) c.glyph.ensures c.if-rest-eq0.true
+    digits_last _ _ _ _ _ c.loop-at.invariant.2 c.loop-at.invariant.0 (omega arith) c.glyph.ensures c.if-rest-eq0.true
 
-pub loop-rest-preserved : goal.loop-rest-preserved
-loop-rest-preserved c = (
-  another _ _ c.loop-rest.invariant.2 (omega arith),
-  omega arith,
-  room _ _ c.loop-rest.invariant.0 c.loop-rest.invariant.2,
-  digits_more _ _ _ _ _ c.loop-rest.invariant.3 c.loop-rest.invariant.0 (omega arith) c.glyph.ensures (omega arith),
+pub loop-at-preserved : goal.loop-at-preserved
+loop-at-preserved c = (
+  another _ _ c.loop-at.invariant.1 (omega arith),
+  room _ _ c.loop-at.invariant.0 c.loop-at.invariant.1,
+  digits_more _ _ _ _ _ c.loop-at.invariant.2 c.loop-at.invariant.0 (omega arith) c.glyph.ensures (omega arith),
 )

@@ -1,11 +1,9 @@
-use mathlib.Core.Path.{◌≡◌}
-use Prim.Native.Nat.{◌-◌, ◌%◌, ◌<◌, ◌≤◌}
-use lib.ListN.{length, drop}
+use Rattle.std.proofs.Common.{◌≡◌, ◌%◌, ◌<◌, length}
 use Rattle.prints.specs.Prints.{word, hash_from}
 use Rattle.prints.proofs.hash.Given as goal
 
-abbrev pub invariant-loop-i : goal.invariant-loop-i
-invariant-loop-i l = (l.h < word) × (l.i ≤ length l.key) × (hash_from (length l.key % word) l.key ≡ hash_from l.h (drop l.i l.key))
+abbrev pub invariant-loop-left : goal.invariant-loop-left
+invariant-loop-left l = (l.h < word) × (hash_from (length l.key % word) l.key ≡ hash_from l.h l.left)
 
-abbrev pub decreases-loop-i : goal.decreases-loop-i
-decreases-loop-i l = length l.key - l.i
+abbrev pub decreases-loop-left : goal.decreases-loop-left
+decreases-loop-left l = length l.left

@@ -1,5 +1,7 @@
-use Rattle.std.proofs.Common.{◌≡◌, ◌/◌, ◌≤◌, length}
+use Rattle.std.proofs.Common.{◌≤◌, length}
 use Rattle.probe.proofs.unhex.Given as goal
 
-abbrev pub invariant-loop-i : goal.invariant-loop-i
-invariant-loop-i l = (l.count ≤ length l.out) × (l.count ≡ length l.word / 2)
+abbrev pub invariant-loop-digits : goal.invariant-loop-digits
+invariant-loop-digits l =
+    (goal.iterator-loop-digits).can_next l.digits-iterator
+    × (goal.iterator-loop-digits).is_finite l.digits-iterator × (l.count ≤ length l.out)

@@ -1,5 +1,7 @@
+use lib.ListN.{length-replicate}
+use Rattle.std.proofs.Common.{ℕ}
 use Rattle.recovery.proofs.Entries.{copy_is}
 use Rattle.recovery.proofs.copied.Goals as goal
 
-pub returns : goal.returns
-returns c = copy_is c.args.region.now _ _ c.args.at c.args.len c.requires.0 c.copy_out.ensures
+pub returns-clause-front : goal.returns-clause-front
+returns-clause-front g c = copy_is _ _ _ c.requires (length-replicate {A = ℕ} _ 0) c.copy_in.ensures

@@ -1,18 +1,15 @@
+use Rattle.std.proofs.lemmas.Result.{err_from_is_err_and}
 use Rattle.recovery.proofs.Recovering.{recover_missed, recover_none, recover_some}
-use Rattle.items.proofs.Along.{fetch_inside}
 use Rattle.recovery.proofs.recover.Goals as goal
 
+pub returns-in_err-fetched : goal.returns-in_err-fetched
+returns-in_err-fetched c = let p = err_from_is_err_and c.from_residual.result c.from_residual.ensures.1 in rw (p.1, p.2) (recover_missed c.marker_key.ensures c.requires c.fetch.ensures c.in_err-fetched.was)
+
 pub returns-in_default : goal.returns-in_default
-returns-in_default c = recover_missed c.marker_key-marker_key.ensures c.requires c.fetch-fetched.ensures c.in_default.is c.unfetched.ensures
+returns-in_default c = recover_none c.marker_key.ensures c.requires c.fetch.ensures c.in_ok-fetched.was c.in_default.is c.discard.ensures
 
-pub returns-in_default-spot : goal.returns-in_default-spot
-returns-in_default-spot c = recover_none c.marker_key-marker_key.ensures c.requires c.fetch-fetched.ensures c.in-Got.is c.in_default-spot.is c.discard.ensures
-
-pub part-requires : goal.part-requires
-part-requires c = let i = fetch_inside c.fetch-fetched.ensures c.in-Got.is c.in-At.is in i.within
-
-pub recover_by-requires : goal.recover_by-requires
-recover_by-requires c = record { region_value = c.requires; short = c.decode_marker-marker.ensures.short }
+pub recover_by-requires-clause-short : goal.recover_by-requires-clause-short
+recover_by-requires-clause-short c = c.decode_marker-marker.ensures.short
 
 pub returns : goal.returns
-returns c = recover_some c.marker_key-marker_key.ensures c.requires c.fetch-fetched.ensures c.in-Got.is c.in-At.is c.part.ensures c.decode_marker-marker.ensures c.recover_by.ensures
+returns c = recover_some c.marker_key.ensures c.requires c.fetch.ensures c.in_ok-fetched.was c.in-Some.is c.decode_marker-marker.ensures c.recover_by.ensures

@@ -1,11 +1,8 @@
-use mathlib.Core.Path.{◌≡◌}
-use Prim.Native.Nat.{◌+◌, ◌-◌, ◌≤◌}
-use lib.ListN.{length, drop}
+use Rattle.std.proofs.Common.{◌≡◌, ◌+◌, ◌≤◌, length, drop}
 use Rattle.definition.specs.Region.{items}
 use Rattle.region.proofs.count.Given as goal
 
-abbrev pub invariant-loop-next : goal.invariant-loop-next
-invariant-loop-next l = (l.n ≤ l.at) × (length (items l.region) ≡ l.n + length (items (drop l.at l.region)))
-
-abbrev pub decreases-loop-next : goal.decreases-loop-next
-decreases-loop-next l = length l.region - l.at
+abbrev pub invariant-loop : goal.invariant-loop
+invariant-loop l =
+    let it = l.iterator' in
+    (goal.iterator-loop).is_finite it × (it.region.now ≡ l.region) × (l.n ≤ it.at) × (length (items l.region) ≡ l.n + length (items (drop it.at l.region)))

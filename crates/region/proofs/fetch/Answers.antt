@@ -1,29 +1,29 @@
-use borrow.Author.Rules.{rules}
-use mathlib.Core.Path.{◌≡◌, sym, ◌∙◌}
-use Rattle.definition.specs.Region.{items}
+use Rattle.std.proofs.Common.{rules, sym, ap, ◌∙◌, arith}
+use Rattle.std.specs.Prelude.{option_map}
 use Rattle.definition.proofs.Image.{good_parts}
-use Rattle.region.specs.Places.{place_of}
-use Rattle.region.specs.declared.Found.TheVariants.{At}
-use Rattle.region.proofs.Finding.{located, fetched_at, fetched_nothing}
+use Rattle.region.proofs.Finding.{located, fetched_nothing}
+use Rattle.region.proofs.Walks.{met_value_length}
 use Rattle.region.proofs.fetch.Goals as goal
 
 pub find-requires : goal.find-requires
 find-requires c = (good_parts _ c.requires).0
 
-pub returns-in_default : goal.returns-in_default
-returns-in_default c = fetched_nothing _ _ (sym c.find.ensures ∙ c.in_default.is)
+pub returns-in_err-place-clause-value : goal.returns-in_err-place-clause-value
+returns-in_err-place-clause-value c = ap (option_map (λ v. v.now)) c.from_residual.ensures ∙ sym (fetched_nothing _ _ (sym c.find.ensures ∙ c.in_err-place.was))
 
-pub overflow_add-from : goal.overflow_add-from
-overflow_add-from c =
-    let found : place_of 0 c.args.key.now (items c.args.region.now) ≡ At c.in-At.at c.in-At.klen c.in-At.vlen = sym c.find.ensures ∙ c.in-At.is in
-    let m = (located _ _ _ _ _ found).met in search rules
+pub value-requires : goal.value-requires
+value-requires c = let m = (located _ _ _ (sym c.find.ensures ∙ c.in_ok-place.was)).met in search rules
 
-pub overflow_add-from-2 : goal.overflow_add-from-2
-overflow_add-from-2 c =
-    let found : place_of 0 c.args.key.now (items c.args.region.now) ≡ At c.in-At.at c.in-At.klen c.in-At.vlen = sym c.find.ensures ∙ c.in-At.is in
-    let m = (located _ _ _ _ _ found).met in search rules
+pub returns-clause-value : goal.returns-clause-value
+returns-clause-value c =
+    let l = located _ _ _ (sym c.find.ensures ∙ c.in_ok-place.was) in
+    let e = c.value.ensures in
+    rw e (sym l.value_is)
 
-pub returns : goal.returns
-returns c =
-    let found : place_of 0 c.args.key.now (items c.args.region.now) ≡ At c.in-At.at c.in-At.klen c.in-At.vlen = sym c.find.ensures ∙ c.in-At.is in
-    fetched_at _ _ _ _ _ found
+pub returns-clause-short : goal.returns-clause-short
+returns-clause-short c =
+    let m = (located _ _ _ (sym c.find.ensures ∙ c.in_ok-place.was)).met in
+    let e = met_value_length m in
+    let s = m.small in
+    let v = c.value.ensures in
+    rw v (omega arith)

@@ -1,5 +1,4 @@
-use mathlib.Core.Path.{sym, ◌∙◌}
-use Rattle.region.proofs.Classes.{tried_other, tried_first, tried_found, tried_gone}
+use Rattle.region.proofs.Classes.{tried_other, tried_first, tried_found}
 use mathlib.Core.Path.{ap}
 use mathlib.Core.Bool.{not}
 use Rattle.region.proofs.is_new.Goals as goal
@@ -10,8 +9,5 @@ returns-then-class_of-class c = tried_other c.hash-h.ensures.0 c.class_of.ensure
 pub returns-then-not-note : goal.returns-then-not-note
 returns-then-not-note c = tried_first c.hash-h.ensures.0 c.class_of.ensures c.note.ensures (ap not c.if-not-note.true)
 
-pub returns-in_default : goal.returns-in_default
-returns-in_default c = tried_found c.hash-h.ensures.0 c.class_of.ensures c.note.ensures _ _ _ (sym c.find.ensures ∙ c.in_default.is)
-
 pub returns : goal.returns
-returns c = tried_gone c.hash-h.ensures.0 c.class_of.ensures c.note.ensures (sym c.find.ensures ∙ c.in-Nothing.is)
+returns c = tried_found c.hash-h.ensures.0 c.class_of.ensures c.note.ensures c.find.ensures c.is_none.ensures

@@ -1,14 +1,11 @@
-use mathlib.Core.Path.{sym, ap, subst, ◌∙◌}
-use Rattle.region.specs.Places.{Short, span_found}
+use mathlib.Core.Path.{sym, ap, ◌∙◌}
+use Rattle.region.specs.Places.{span_found}
 use Rattle.region.proofs.old_span.Goals as goal
 
-pub returns-in_default : goal.returns-in_default
+pub returns-in-None : goal.returns-in-None
 unfolding span_found
-returns-in_default c = sym (ap span_found c.in_default.is)
+returns-in-None c = sym (ap span_found c.in-None.is)
 
-pub span-requires : goal.span-requires
-span-requires c = subst Short c.in-At.is c.requires
-
-pub returns : goal.returns
+pub returns-in-Some : goal.returns-in-Some
 unfolding span_found
-returns c = c.span.ensures ∙ sym (ap span_found c.in-At.is)
+returns-in-Some c = c.span.ensures ∙ sym (ap span_found c.in-Some.is)

@@ -1,5 +1,8 @@
 use Rattle.definition.proofs.Image.{good_parts}
 use Rattle.region.proofs.remove.Goals as goal
 
-pub survey-seen-requires : goal.survey-seen-requires
-survey-seen-requires c = (good_parts _ c.requires).0
+pub find-requires : goal.find-requires
+find-requires c = (good_parts _ c.requires.region_value).0
+
+pub survey-requires : goal.survey-requires
+survey-requires c = (good_parts _ c.requires.region_value).0

@@ -1,38 +1,38 @@
-use borrow.Author.Rules.{rules}
-use mathlib.Core.Path.{sym, ap, ◌∙◌}
-use native.Mathlib.Nat.{zero-add}
-use Rattle.region.specs.Places.{Met}
-use Rattle.definition.specs.Space.{user_count}
-use Rattle.region.proofs.Answers.{met_item, met_nothing}
+use Rattle.std.proofs.Common.{rules, sym, ap, ◌∙◌, ◌+◌, arith, ℕ, length, ◌-◌, drop}
+use Rattle.definition.specs.Region
+use Rattle.definition.specs.Region.{items}
+use Rattle.definition.specs.Space.{user_count, takes}
+use Rattle.region.proofs.Answers.{turn_met, turn_over}
 use Rattle.region.proofs.Walks.{met_used, met_takes, user_small, space_stop}
 use Rattle.region.proofs.space.Goals as goal
 
-pub loop-klen-init : goal.loop-klen-init
-loop-klen-init c = (search rules, search rules, sym (zero-add _), sym (zero-add _))
-
-pub returns-in_default : goal.returns-in_default
-returns-in_default c = let l = c.loop-klen in
-    space_stop _ l.at l.takes l.invariant.2 l.invariant.3 (met_nothing c.next_item.ensures c.in_default.is)
-
-pub key_at-requires : goal.key_at-requires
-key_at-requires c =
-    let found : Met c.args.region.now c.loop-klen.at c.in-Item.klen c.in-Item.field-1 c.in-Item.next = met_item c.next_item.ensures c.in-Item.is in
-    let m = found in search rules
-
 pub overflow_add-takes : goal.overflow_add-takes
 overflow_add-takes c =
-    let found : Met c.args.region.now c.loop-klen.at c.in-Item.klen c.in-Item.field-1 c.in-Item.next = met_item c.next_item.ensures c.in-Item.is in
-    let m = found in let u = user_small _ c.user_count-takes.ensures in let i = c.loop-klen.invariant in search rules
-
-pub loop-klen-smaller : goal.loop-klen-smaller
-loop-klen-smaller c =
-    let found : Met c.args.region.now c.loop-klen.at c.in-Item.klen c.in-Item.field-1 c.in-Item.next = met_item c.next_item.ensures c.in-Item.is in
-    let m = found in search rules
-
-pub loop-klen-preserved : goal.loop-klen-preserved
-loop-klen-preserved c =
-    let found : Met c.args.region.now c.loop-klen.at c.in-Item.klen c.in-Item.field-1 c.in-Item.next = met_item c.next_item.ensures c.in-Item.is in
-    let m = found in
     let u = user_small _ c.user_count-takes.ensures in
-    let l = c.loop-klen in
-    (search rules, search rules, l.invariant.2 ∙ met_used m, l.invariant.3 ∙ met_takes m l.takes (c.user_count-takes.ensures ∙ ap user_count c.key_at.ensures))
+    let i = c.loop-place.invariant in
+    search rules
+
+pub loop-place-preserved : goal.loop-place-preserved
+loop-place-preserved c =
+    let i = c.loop-place.invariant in
+    let s = c.in-Some.ensures.steps in
+    let t = turn_met i.1 s.0 in
+    let m = t.1 in
+    let h = m.holds in
+    let e = t.0 in
+    let f = c.user_count-takes.ensures ∙ ap user_count c.key.ensures in
+    let u = user_small _ c.user_count-takes.ensures in (
+      tt,
+      s.1 ∙ i.1,
+      c.end-used.ensures ∙ sym m.next_is,
+      m.inside,
+      omega (arith, u, i.4),
+      i.5 ∙ ap (λ (x : ℕ). x + Region.used (items (drop x c.args.region.now))) e ∙ met_used m,
+      i.6 ∙ ap (λ (x : ℕ). c.loop-place.takes + takes (items (drop x c.args.region.now))) e ∙ met_takes m c.loop-place.takes f,
+    )
+
+pub returns : goal.returns
+returns c =
+    let i = c.loop-place.invariant in
+    ap (λ (x : ℕ). record { used = x; free = length c.args.region.now - x; takes = c.loop-place.takes }) i.2
+    ∙ space_stop _ _ c.loop-place.takes i.5 i.6 (turn_over i.1 c.in-None.ensures.steps.0)

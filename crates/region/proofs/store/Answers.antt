@@ -14,18 +14,18 @@ use mathlib.Core.Path.{ap}
 use mathlib.Core.Bool.{not}
 use Rattle.region.proofs.store.Goals as goal
 
-pub survey-seen-requires : goal.survey-seen-requires
-survey-seen-requires c = (good_parts _ c.requires.region_value).0
+pub survey-found-requires : goal.survey-found-requires
+survey-found-requires c = (good_parts _ c.requires.region_value).0
 
 pub old_span-old-requires : goal.old_span-old-requires
-old_span-old-requires c = short_found _ _ _ c.survey-seen.ensures.found
+old_span-old-requires c = short_found _ _ _ c.survey-found.ensures.found
 
 pub span-new-requires : goal.span-new-requires
 span-new-requires c = let b = bounded _ _ c.requires.value_value in search rules
 
 pub has_room-requires : goal.has_room-requires
-has_room-requires c = let u = used_is _ c.survey-seen.ensures.space in
-    let o = room_found _ _ _ c.survey-seen.ensures.found c.old_span-old.ensures in
+has_room-requires c = let u = used_is _ c.survey-found.ensures.space in
+    let o = room_found _ _ _ c.survey-found.ensures.found c.old_span-old.ensures in
     (omega (arith, u, o), omega (arith, u, used_fits c.args.region.now))
 
 pub returns-then-not-has_room : goal.returns-then-not-has_room
@@ -33,7 +33,7 @@ unfolding span_of
 returns-then-not-has_room c =
     let new : Item = item c.args.key.now c.args.value.now in
     let ruled : let s = c.args.region.now in c.has_room.result ≡ room (length s) new (items s) = c.has_room.ensures
-    ∙ room_is _ new _ _ (used_is _ c.survey-seen.ensures.space) (room_found _ _ _ c.survey-seen.ensures.found c.old_span-old.ensures) c.span-new.ensures in
+    ∙ room_is _ new _ _ (used_is _ c.survey-found.ensures.space) (room_found _ _ _ c.survey-found.ensures.found c.old_span-old.ensures) c.span-new.ensures in
     stores_nothing _ new c.requires.region_value c.requires.value_value ruled (ap not c.if-not-has_room.true)
 
 pub put_record-requires : goal.put_record-requires
@@ -41,7 +41,7 @@ unfolding span_of
 put_record-requires c =
     let new : Item = item c.args.key.now c.args.value.now in
     let ruled : let s = c.args.region.now in c.has_room.result ≡ room (length s) new (items s) = c.has_room.ensures
-    ∙ room_is _ new _ _ (used_is _ c.survey-seen.ensures.space) (room_found _ _ _ c.survey-seen.ensures.found c.old_span-old.ensures) c.span-new.ensures in
+    ∙ room_is _ new _ _ (used_is _ c.survey-found.ensures.space) (room_found _ _ _ c.survey-found.ensures.found c.old_span-old.ensures) c.span-new.ensures in
     let b = bounded _ _ c.requires.value_value in
     record { key_len_bound = search rules; value_in_bounds = fits _ new c.requires.region_value c.requires.value_value ruled (ap not c.if-not-has_room.false) c.drop_found-kept.ensures refl }
 
@@ -50,7 +50,7 @@ unfolding span_of
 overflow_add-used c =
     let new : Item = item c.args.key.now c.args.value.now in
     let ruled : let s = c.args.region.now in c.has_room.result ≡ room (length s) new (items s) = c.has_room.ensures
-    ∙ room_is _ new _ _ (used_is _ c.survey-seen.ensures.space) (room_found _ _ _ c.survey-seen.ensures.found c.old_span-old.ensures) c.span-new.ensures in
+    ∙ room_is _ new _ _ (used_is _ c.survey-found.ensures.space) (room_found _ _ _ c.survey-found.ensures.found c.old_span-old.ensures) c.span-new.ensures in
     let fitting : c.drop_found-kept.result.used + c.span-new.result ≤ length c.drop_found-kept.new.region = fits _ new c.requires.region_value c.requires.value_value ruled (ap not c.if-not-has_room.false) c.drop_found-kept.ensures c.span-new.ensures in
     let f = fitting in search rules
 
@@ -59,7 +59,7 @@ unfolding span_of
 overflow_sub-result c =
     let new : Item = item c.args.key.now c.args.value.now in
     let ruled : let s = c.args.region.now in c.has_room.result ≡ room (length s) new (items s) = c.has_room.ensures
-    ∙ room_is _ new _ _ (used_is _ c.survey-seen.ensures.space) (room_found _ _ _ c.survey-seen.ensures.found c.old_span-old.ensures) c.span-new.ensures in
+    ∙ room_is _ new _ _ (used_is _ c.survey-found.ensures.space) (room_found _ _ _ c.survey-found.ensures.found c.old_span-old.ensures) c.span-new.ensures in
     let fitting : c.drop_found-kept.result.used + c.span-new.result ≤ length c.drop_found-kept.new.region = fits _ new c.requires.region_value c.requires.value_value ruled (ap not c.if-not-has_room.false) c.drop_found-kept.ensures c.span-new.ensures in
     let f = fitting in search rules
 
@@ -68,7 +68,7 @@ unfolding span_of
 overflow_add-result c =
     let new : Item = item c.args.key.now c.args.value.now in
     let ruled : let s = c.args.region.now in c.has_room.result ≡ room (length s) new (items s) = c.has_room.ensures
-    ∙ room_is _ new _ _ (used_is _ c.survey-seen.ensures.space) (room_found _ _ _ c.survey-seen.ensures.found c.old_span-old.ensures) c.span-new.ensures in
+    ∙ room_is _ new _ _ (used_is _ c.survey-found.ensures.space) (room_found _ _ _ c.survey-found.ensures.found c.old_span-old.ensures) c.span-new.ensures in
     let fitting : c.drop_found-kept.result.used + c.span-new.result ≤ length c.drop_found-kept.new.region = fits _ new c.requires.region_value c.requires.value_value ruled (ap not c.if-not-has_room.false) c.drop_found-kept.ensures c.span-new.ensures in
     let countable : c.drop_found-kept.result.takes < 9223372036854775808 = let f = fitting in let t = takes_within _ c.drop_found-kept.ensures.space in search rules in
     let t = countable in
@@ -81,6 +81,6 @@ unfolding span_of
 returns c =
     let new : Item = item c.args.key.now c.args.value.now in
     let ruled : let s = c.args.region.now in c.has_room.result ≡ room (length s) new (items s) = c.has_room.ensures
-    ∙ room_is _ new _ _ (used_is _ c.survey-seen.ensures.space) (room_found _ _ _ c.survey-seen.ensures.found c.old_span-old.ensures) c.span-new.ensures in
+    ∙ room_is _ new _ _ (used_is _ c.survey-found.ensures.space) (room_found _ _ _ c.survey-found.ensures.found c.old_span-old.ensures) c.span-new.ensures in
     stores _ new c.requires.region_value c.requires.value_value ruled (ap not c.if-not-has_room.false) c.drop_found-kept.ensures
     c.put_record.ensures c.span-new.ensures c.user_count.ensures

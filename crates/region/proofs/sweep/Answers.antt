@@ -1,33 +1,23 @@
-use borrow.Author.Rules.{rules}
-use mathlib.Core.Path.{refl, sym, ◌∙◌}
-use Rattle.region.specs.Places.{Met}
-use Rattle.region.specs.Classes.{is_swept}
-use Rattle.region.proofs.Answers.{met_item, met_nothing}
+use Rattle.std.proofs.Common.{sym, ap, ◌∙◌, arith, ℕ, drop}
+use Rattle.std.specs.Prelude.{is_some}
+use Rattle.definition.specs.Region.{blank, whole}
+use Rattle.region.proofs.Answers.{turn_met, turn_over, then_some_told}
 use Rattle.region.proofs.Walks.{met_whole, whole_stop}
 use Rattle.region.proofs.sweep.Goals as goal
 
-pub loop-next-init : goal.loop-next-init
-loop-next-init c = (search rules, search rules, refl)
+pub loop-place-preserved : goal.loop-place-preserved
+loop-place-preserved c =
+    let i = c.loop-place.invariant in
+    let s = c.in-Some.ensures.steps in
+    let t = turn_met i.1 s.0 in
+    let m = t.1 in
+    let h = m.holds in
+    let e = t.0 in
+    (tt, s.1 ∙ i.1, c.end-end.ensures ∙ sym m.next_is, omega arith, m.inside, i.5 ∙ ap (λ (x : ℕ). whole (drop x c.args.region.now)) e ∙ met_whole m)
 
-pub returns-then-is_blank_from : goal.returns-then-is_blank_from
-unfolding is_swept
-returns-then-is_blank_from c = sym (c.loop-next.invariant.2 ∙ whole_stop _ (met_nothing c.next_item.ensures c.in_default.is) ∙ sym c.is_blank_from.ensures ∙ c.if-is_blank_from.true)
-
-pub returns-in_default : goal.returns-in_default
-unfolding is_swept
-returns-in_default c = sym (c.loop-next.invariant.2 ∙ whole_stop _ (met_nothing c.next_item.ensures c.in_default.is) ∙ sym c.is_blank_from.ensures ∙ c.if-is_blank_from.false)
-
-pub overflow_add-n : goal.overflow_add-n
-overflow_add-n c =
-    let found : Met c.args.region.now c.loop-next.at c.in-Item.field-0 c.in-Item.field-1 c.in-Item.next = met_item c.next_item.ensures c.in-Item.is in
-    let m = found in search rules
-
-pub loop-next-smaller : goal.loop-next-smaller
-loop-next-smaller c =
-    let found : Met c.args.region.now c.loop-next.at c.in-Item.field-0 c.in-Item.field-1 c.in-Item.next = met_item c.next_item.ensures c.in-Item.is in
-    let m = found in search rules
-
-pub loop-next-preserved : goal.loop-next-preserved
-loop-next-preserved c =
-    let found : Met c.args.region.now c.loop-next.at c.in-Item.field-0 c.in-Item.field-1 c.in-Item.next = met_item c.next_item.ensures c.in-Item.is in
-    let m = found in let l = c.loop-next.invariant in (search rules, search rules, l.2 ∙ met_whole m)
+pub returns : goal.returns
+returns c =
+    let i = c.loop-place.invariant in
+    ap is_some c.then_some.ensures ∙ then_some_told c.is_blank_from.result c.loop-place.n ∙ c.is_blank_from.ensures
+    ∙ ap (λ (x : ℕ). blank (drop x c.args.region.now)) i.2
+    ∙ sym (i.5 ∙ whole_stop _ (turn_over i.1 c.in-None.ensures.steps.0))

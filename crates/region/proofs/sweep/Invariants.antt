@@ -1,11 +1,9 @@
-use mathlib.Core.Path.{◌≡◌}
-use Prim.Native.Nat.{◌-◌, ◌≤◌}
-use lib.ListN.{length, drop}
+use Rattle.std.proofs.Common.{◌≡◌, ◌≤◌, length, drop}
 use Rattle.definition.specs.Region.{whole}
 use Rattle.region.proofs.sweep.Given as goal
 
-abbrev pub invariant-loop-next : goal.invariant-loop-next
-invariant-loop-next l = (l.n ≤ l.at) × (l.at ≤ length l.region) × (whole l.region ≡ whole (drop l.at l.region))
-
-abbrev pub decreases-loop-next : goal.decreases-loop-next
-decreases-loop-next l = length l.region - l.at
+abbrev pub invariant-loop-place : goal.invariant-loop-place
+invariant-loop-place l =
+    let it = l.place-iterator in
+    (goal.iterator-loop-place).is_finite it × (it.region.now ≡ l.region) × (l.end ≡ it.at) × (l.n ≤ it.at) × (it.at ≤ length l.region)
+    × (whole l.region ≡ whole (drop it.at l.region))

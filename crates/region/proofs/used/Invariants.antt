@@ -1,12 +1,10 @@
-use mathlib.Core.Path.{◌≡◌}
-use Prim.Native.Nat.{◌+◌, ◌-◌, ◌≤◌}
-use lib.ListN.{length, drop}
+use Rattle.std.proofs.Common.{◌≡◌, ◌+◌, ◌≤◌, length, drop}
 use Rattle.definition.specs.Region
 use Rattle.definition.specs.Region.{items}
 use Rattle.region.proofs.used.Given as goal
 
-abbrev pub invariant-loop-next : goal.invariant-loop-next
-invariant-loop-next l = (l.at ≤ length l.region) × (Region.used (items l.region) ≡ l.at + Region.used (items (drop l.at l.region)))
-
-abbrev pub decreases-loop-next : goal.decreases-loop-next
-decreases-loop-next l = length l.region - l.at
+abbrev pub invariant-loop-place : goal.invariant-loop-place
+invariant-loop-place l =
+    let it = l.place-iterator in
+    (goal.iterator-loop-place).is_finite it × (it.region.now ≡ l.region) × (l.end ≡ it.at) × (it.at ≤ length l.region)
+    × (Region.used (items l.region) ≡ it.at + Region.used (items (drop it.at l.region)))

@@ -1,6 +1,6 @@
 use mathlib.Core.Path.{◌≡◌}
-use Prim.Native.Nat.{◌-◌}
 use lib.ListN.{length}
+use Rattle.std.specs.Prelude.{Ok}
 use Rattle.definition.specs.Region.{items}
 use Rattle.definition.specs.Scan.{rising}
 use Rattle.definition.specs.declared.ScanEnd.TheVariants.{Finished}
@@ -10,13 +10,10 @@ use Rattle.scan.proofs.Writing.{Writing, Going}
 use Rattle.scan.proofs.passes.Given as goal
 
 abbrev pub invariant-loop-i : goal.invariant-loop-i
-invariant-loop-i l = Writing l.most (window_items l.region l.window) l.initial.out l.initial.count l.initial.length l.out l.count l.length l.i × (l.end ≡ Finished)
-
-abbrev pub decreases-loop-i : goal.decreases-loop-i
-decreases-loop-i l = l.window.len - l.i
+invariant-loop-i l = Writing l.most (window_items l.region l.window) l.initial.out l.initial.count l.initial.length l.out l.count l.length l.i × (l.end ≡ Ok Finished)
 
 abbrev pub invariant-passes : goal.invariant-passes
-invariant-passes l = Going rising l.region l.script l.prefix l.most l.initial.out l.initial.step l.out l.step l.count l.length l.last × (l.end ≡ Finished)
+invariant-passes l = Going rising l.region l.script l.prefix l.most l.initial.out l.initial.step l.out l.step l.count l.length l.last × (l.end ≡ Ok Finished)
 
 abbrev pub decreases-passes : goal.decreases-passes
 decreases-passes l = lib.ListN.length (above rising (last_key l.region l.last) (sorted rising l.prefix (items l.region)))

@@ -1,27 +1,27 @@
+use Rattle.std.proofs.Common.{sym, ◌∙◌}
+use Rattle.std.specs.Prelude.{Err}
 use Rattle.definition.specs.Public.{contains}
 use Rattle.definition.specs.Calls as C
 use Rattle.definition.specs.Codec.{laid}
-use mathlib.Core.Path.{sym, ◌∙◌}
-use Rattle.gate.proofs.Saying.{public_bad, public_ready, public_unready, says_as, says_ret, truth_outcome}
-use Rattle.definition.specs.declared.TruthAnswer.TheVariants.{Refused}
 use Rattle.definition.proofs.Choices.{pick_yes, pick_no}
+use Rattle.gate.proofs.Saying.{public_bad, public_ready, public_unready, says_as, says_ret, as_told, unchanged_outcome, reply_outcome}
 use Rattle.store.proofs.contains.Goals as goal
 
 pub returns-then-not-is_good : goal.returns-then-not-is_good
 unfolding contains
-returns-then-not-is_good c = public_bad Refused _ _ _ _ _ c.is_good.ensures c.if-not-is_good.true
+returns-then-not-is_good c = unchanged_outcome c.unchanged.ensures ∙ public_bad Err _ _ _ _ _ c.is_good.ensures c.if-not-is_good.true
 
-pub converge-converged-requires : goal.converge-converged-requires
-converge-converged-requires c = sym c.is_good.ensures ∙ c.if-not-is_good.false
+pub ready-requires : goal.ready-requires
+ready-requires c = sym c.is_good.ensures ∙ c.if-not-is_good.false
 
-pub returns-in_default : goal.returns-in_default
+pub returns-in-Err : goal.returns-in-Err
 unfolding contains C.contains laid
-returns-in_default c = truth_outcome c.truth_refused.ensures ∙ public_unready Refused _ c.args.state _ c.is_good.ensures c.if-not-is_good.false c.is_pending.ensures c.begin.ensures c.converge-converged.ensures c.in_default.is c.why.ensures
+returns-in-Err c = reply_outcome c.refused.ensures ∙ public_unready Err _ c.args.state _ c.is_good.ensures c.if-not-is_good.false c.ready.ensures c.in-Err.is
 
 pub returns-then-unstorable : goal.returns-then-unstorable
 unfolding contains C.contains laid
-returns-then-unstorable c = truth_outcome c.truth.ensures ∙ public_ready Refused _ c.args.state _ c.is_good.ensures c.if-not-is_good.false c.is_pending.ensures c.begin.ensures c.converge-converged.ensures c.in-Ready.is (says_as (pick_yes _ _ (sym c.unstorable.ensures ∙ c.if-unstorable.true)) (says_ret c.converge-converged.ensures.fine))
+returns-then-unstorable c = reply_outcome c.reply.ensures ∙ public_ready Err _ c.args.state _ c.is_good.ensures c.if-not-is_good.false c.ready.ensures c.in-Ok.is (says_as (pick_yes _ _ (sym c.unstorable.ensures ∙ c.if-unstorable.true)) (says_ret c.ready.ensures.fine))
 
 pub returns : goal.returns
 unfolding contains C.contains laid
-returns c = public_ready Refused _ c.args.state _ c.is_good.ensures c.if-not-is_good.false c.is_pending.ensures c.begin.ensures c.converge-converged.ensures c.in-Ready.is (says_as (pick_no _ _ (sym c.unstorable.ensures ∙ c.if-unstorable.false)) c.contains_key.ensures)
+returns c = public_ready Err _ c.args.state _ c.is_good.ensures c.if-not-is_good.false c.ready.ensures c.in-Ok.is (says_as (pick_no _ _ (sym c.unstorable.ensures ∙ c.if-unstorable.false)) (as_told _ c.told.ensures c.contains_key.ensures))

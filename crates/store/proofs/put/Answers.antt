@@ -1,22 +1,22 @@
+use Rattle.std.proofs.Common.{sym, ◌∙◌}
+use Rattle.std.specs.Prelude.{Err}
 use Rattle.definition.specs.Public.{put}
 use Rattle.definition.specs.Calls as C
 use Rattle.definition.specs.Codec.{laid}
-use mathlib.Core.Path.{sym, ◌∙◌}
-use Rattle.gate.proofs.Saying.{public_bad, public_ready, public_unready, reply_outcome}
-use Rattle.definition.specs.declared.Answer.TheVariants.{Refused}
+use Rattle.gate.proofs.Saying.{public_bad, public_ready, public_unready, unchanged_outcome, reply_outcome}
 use Rattle.store.proofs.put.Goals as goal
 
 pub returns-then-not-is_good : goal.returns-then-not-is_good
 unfolding put
-returns-then-not-is_good c = public_bad Refused _ _ _ _ _ c.is_good.ensures c.if-not-is_good.true
+returns-then-not-is_good c = unchanged_outcome c.unchanged.ensures ∙ public_bad Err _ _ _ _ _ c.is_good.ensures c.if-not-is_good.true
 
-pub converge-converged-requires : goal.converge-converged-requires
-converge-converged-requires c = sym c.is_good.ensures ∙ c.if-not-is_good.false
+pub ready-requires : goal.ready-requires
+ready-requires c = sym c.is_good.ensures ∙ c.if-not-is_good.false
 
-pub returns-in_default : goal.returns-in_default
+pub returns-in-Err : goal.returns-in-Err
 unfolding put C.put laid
-returns-in_default c = reply_outcome c.refused.ensures ∙ public_unready Refused _ c.args.state _ c.is_good.ensures c.if-not-is_good.false c.is_pending.ensures c.begin.ensures c.converge-converged.ensures c.in_default.is c.why.ensures
+returns-in-Err c = reply_outcome c.refused.ensures ∙ public_unready Err _ c.args.state _ c.is_good.ensures c.if-not-is_good.false c.ready.ensures c.in-Err.is
 
 pub returns : goal.returns
 unfolding put C.put laid
-returns c = public_ready Refused _ c.args.state _ c.is_good.ensures c.if-not-is_good.false c.is_pending.ensures c.begin.ensures c.converge-converged.ensures c.in-Ready.is c.put_ready.ensures
+returns c = public_ready Err _ c.args.state _ c.is_good.ensures c.if-not-is_good.false c.ready.ensures c.in-Ok.is c.put_ready.ensures

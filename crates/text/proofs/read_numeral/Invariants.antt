@@ -1,5 +1,5 @@
 use Rattle.text.proofs.Laws.{Reading}
 use Rattle.text.proofs.read_numeral.Given as goal
 
-abbrev pub invariant-loop-digit : goal.invariant-loop-digit
-invariant-loop-digit l = Reading l.word l.value l.digit-index
+abbrev pub invariant-loop-byte : goal.invariant-loop-byte
+invariant-loop-byte l = Reading l.word l.value l.byte-index

@@ -1,11 +1,12 @@
+use Rattle.std.proofs.Common.{rules}
 use Rattle.windows.proofs.Windows.{beyond_at, beyond_none, last_held}
 use Rattle.windows.proofs.beyond.Goals as goal
 
-pub key_of-requires : goal.key_of-requires
-key_of-requires c = last_held _ c.requires c.in-At.is
+pub key-requires : goal.key-requires
+key-requires c = let h = last_held _ c.requires c.in-Some.is in search rules
 
-pub returns-in-At : goal.returns-in-At
-returns-in-At c = beyond_at _ _ _ c.in-At.is c.key_of.ensures c.before-in-At.ensures
+pub returns-in-Some : goal.returns-in-Some
+returns-in-Some c = beyond_at _ _ _ c.in-Some.is c.key.ensures c.before-in-Some.ensures
 
-pub returns-in-Nothing : goal.returns-in-Nothing
-returns-in-Nothing c = beyond_none _ _ _ c.in-Nothing.is
+pub returns-in-None : goal.returns-in-None
+returns-in-None c = beyond_none _ _ _ c.in-None.is

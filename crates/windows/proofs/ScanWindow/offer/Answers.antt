@@ -8,4 +8,4 @@ insert_at-requires c = let g = c.requires.sane in
     (g.eight, g.most, omega (arith, c.position-at.ensures.within))
 
 pub returns : goal.returns
-returns c = offered c.requires.sane c.requires.held c.key_of.ensures c.position-at.ensures c.insert_at.ensures
+returns c = offered c.requires.sane c.requires.held c.key.ensures c.position-at.ensures c.insert_at.ensures

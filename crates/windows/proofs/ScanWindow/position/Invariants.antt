@@ -1,11 +1,7 @@
-use Prim.Native.Nat.{◌-◌}
 use Rattle.definition.specs.Scan.{rising}
 use Rattle.windows.specs.Forms.{window_items}
 use Rattle.windows.proofs.Windows.{Passed}
 use Rattle.windows.proofs.ScanWindow.position.Given as goal
 
 abbrev pub invariant-loop-i : goal.invariant-loop-i
-invariant-loop-i l = Passed rising l.key (window_items l.region (record { places = l.places; len = l.len })) l.i
-
-abbrev pub decreases-loop-i : goal.decreases-loop-i
-decreases-loop-i l = l.len - l.i
+invariant-loop-i l = Passed rising l.key (window_items l.region l.self) l.i

@@ -1,0 +1,8 @@
+use mathlib.Core.Path.{ap, ◌∙◌}
+use Rattle.definition.specs.declared.State.{State}
+use Rattle.definition.specs.Public as P
+use Rattle.exports.proofs.Crossing.{hears}
+use Rattle.exports.proofs.takes_ops.Goals as goal
+
+pub returns : goal.returns
+returns c = hears c.built.ensures c.from-2.ensures (c.apply_ops-reply.ensures ∙ ap (λ (st : State). P.apply_ops c.args.region.now c.args.script.now st c.args.ops.now c.args.pool.now) c.from.ensures)

@@ -1,9 +1,0 @@
-use Prim.Native.Nat.{◌-◌}
-use Rattle.windows.proofs.Windows.{Shifted}
-use Rattle.windows.proofs.ScanWindow.insert_at.Given as goal
-
-abbrev pub invariant-loop-i : goal.invariant-loop-i
-invariant-loop-i l = Shifted l.at l.initial.carried l.initial.places l.len l.places l.carried l.i
-
-abbrev pub decreases-loop-i : goal.decreases-loop-i
-decreases-loop-i l = l.len - l.i
