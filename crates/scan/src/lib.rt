@@ -92,14 +92,13 @@ fn passes(
             end = Err(Fault::ScanStalled);
             break 'passes;
         }
-        for i in 0..window.len {
-            let place = window.places[i];
+        for place in &window.places[..window.len] {
             let size = region::size(place.klen, place.vlen);
             if out.len() - length < size {
                 end = Ok(ScanEnd::NoRoom);
                 break 'passes;
             }
-            windows::put_place(region, place, out, length);
+            windows::put_place(region, *place, out, length);
             length += size;
             count += 1;
             if count == most {

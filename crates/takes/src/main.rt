@@ -154,17 +154,26 @@ fn put_refused(out: &mut Answers, fault: Fault) {
     out.put_count(b"refused ", numbers::number(fault) as u64);
 }
 
-fn put_answer(out: &mut Answers, answer: Answer) {
-    match answer {
-        Ok(()) => out.put(b"ok"),
-        Err(fault) => put_refused(out, fault),
+// An answer that needs nothing beside it to be shown.
+trait Shown {
+    fn put(self, out: &mut Answers);
+}
+
+impl Shown for Answer {
+    fn put(self, out: &mut Answers) {
+        match self {
+            Ok(()) => out.put(b"ok"),
+            Err(fault) => put_refused(out, fault),
+        }
     }
 }
 
-fn put_truth(out: &mut Answers, answer: TruthAnswer) {
-    match answer {
-        Ok(truth) => out.put_truth(truth),
-        Err(fault) => put_refused(out, fault),
+impl Shown for TruthAnswer {
+    fn put(self, out: &mut Answers) {
+        match self {
+            Ok(truth) => out.put_truth(truth),
+            Err(fault) => put_refused(out, fault),
+        }
     }
 }
 
@@ -214,19 +223,14 @@ fn front(bytes: &[u8], len: usize) -> &[u8] {
     bytes.get(..len).unwrap_or(bytes)
 }
 
-// The line of a call's answer, one function for each kind of answer; it hands back the state to keep.
-fn say(out: &mut Answers, name: &[u8], reply: Reply<Answer>) -> State {
+// The line of a call's answer; it hands back the state to keep.
+fn say<A: Shown + Copy>(out: &mut Answers, name: &[u8], reply: Reply<A>) -> State {
     out.put(name);
-    put_answer(out, reply.answer);
+    reply.answer.put(out);
     close(out, reply)
 }
 
-fn say_truth(out: &mut Answers, name: &[u8], reply: Reply<TruthAnswer>) -> State {
-    out.put(name);
-    put_truth(out, reply.answer);
-    close(out, reply)
-}
-
+// The two that show what was lent to the call besides.
 fn say_got(out: &mut Answers, reply: Reply<GetAnswer>, value: &[u8]) -> State {
     out.put(b"get ");
     put_got(out, reply.answer, value);
@@ -326,7 +330,7 @@ impl Console {
         region.fill(255);
         let reply = store::mount(region, &script[..*codes], 0, state.at);
         self.out.put(b"mount ");
-        put_answer(&mut self.out, reply.answer);
+        reply.answer.put(&mut self.out);
         self.state = reply.state;
         if reply.answer.is_ok() {
             self.mounted = Some(size);
@@ -367,12 +371,8 @@ impl Console {
                 say(out, b"put ", store::put(region, script, *state, key, value))
             }
             Command::Get(key) => say_got(out, store::get(region, script, *state, key, work), work),
-            Command::Has(key) => {
-                say_truth(out, b"has ", store::contains(region, script, *state, key))
-            }
-            Command::Del(key) => {
-                say_truth(out, b"del ", store::delete(region, script, *state, key))
-            }
+            Command::Has(key) => { say(out, b"has ", store::contains(region, script, *state, key)) }
+            Command::Del(key) => { say(out, b"del ", store::delete(region, script, *state, key)) }
             Command::Batch(words) => {
                 let count = read_operations(words, work)?;
                 let list = &work[..count];

@@ -19,6 +19,8 @@ use Rattle.definition.specs.declared.Fault.TheVariants.{CapacityExceeded}
 use Rattle.definition.specs.declared.CapacityKind.TheVariants.{Value}
 use Rattle.codec.specs.Forms.{checked_of}
 use Rattle.std.specs.declared.cmp.Ordering.{Ordering}
+use Rattle.std.specs.declared.cmp.Ordering.TheVariants.{Less, Equal, Greater}
+use Rattle.std.specs.Ordering.{is_lt}
 use Rattle.definition.specs.Scan.{is_less, rising, begins, insert, window_size, last_of, beyond, matches, overlong, keep, advances}
 use Rattle.definition.proofs.Choices.{bool, pick_yes, pick_no, opt_none, opt_some}
 use Rattle.definition.proofs.Records.{record_length}
@@ -72,9 +74,15 @@ begins_is [] k = refl
 begins_is (a ∷ p) [] = refl
 begins_is (a ∷ p) (b ∷ k) = bool (eqb a b) (λ t. rw t (begins_is p k)) (λ f. rw f)
 
-pub rising_is : (a b : Bytes) {o x : Ordering} → o ≡ order a b → o ≡ x → is_less x ≡ rising a b
+lt_less : (o : Ordering) → is_lt o ≡ is_less o
+unfolding is_less
+lt_less Less = refl
+lt_less Equal = refl
+lt_less Greater = refl
+
+pub rising_is : (a b : Bytes) {o : Ordering} {r : Bool} → o ≡ order a b → r ≡ is_lt o → r ≡ rising a b
 unfolding rising
-rising_is a b e f = ap is_less (sym f ∙ e)
+rising_is a b {o} e f = f ∙ lt_less o ∙ ap is_less e
 
 module _ (before : Direction) (s key : Bytes) {last : Option Place} where
   pub beyond_at : {p : Place} {k : Bytes} {b : Bool} → last ≡ Some p → k ≡ place_key s p → b ≡ before k key → b ≡ beyond before (last_key s last) key
@@ -213,7 +221,7 @@ unfolding window_items place_items
 empty_holds s w z = ap (λ (n : ℕ). place_items s (take n w.places)) z
 
 module _ {s : Bytes} {w : ScanWindow} (h : Sane s w) where
-  filled_length : length (filled w) ≡ w.len
+  pub filled_length : length (filled w) ≡ w.len
   filled_length = let e = h.eight in let m = h.most in length-take-le w.len w.places (omega arith)
 
   pub window_length : length (window_items s w) ≡ w.len
@@ -235,6 +243,26 @@ module _ {s : Bytes} {w : ScanWindow} (h : Sane s w) where
         ∙ ap (place_items s) (drop-cons (filled w) i no_place (omega arith))
         ∙ ap₂ (λ (p : Place) (l : List Item). place_item s p ∷ l) window_get
         (items_drop s (suc i) (filled w) ∙ ap (λ (n : ℕ). drop n (place_items s (filled w))) (sym (add-one i)))
+
+  -- a turn over the places in use
+  pub turns_over : {i : ℕ} → length (filled w) ≤ i → w.len ≤ i
+  turns_over l = let e = filled_length in omega arith
+
+  module _ {i : ℕ} (l : i < length (filled w)) where
+    pub turn_inside : i < w.len
+    turn_inside = let e = filled_length in omega arith
+
+    turn_place : get_or (filled w) i no_place ≡ get_or w.places i no_place
+    turn_place = window_get turn_inside
+
+    pub turn_held : Held s (get_or (filled w) i no_place)
+    turn_held = subst (Held s) (sym turn_place) (window_held turn_inside)
+
+    pub turn_key : {k : Bytes} → k ≡ place_key s (get_or (filled w) i no_place) → k ≡ place_key s (get_or w.places i no_place)
+    turn_key e = e ∙ ap (place_key s) turn_place
+
+    pub turn_at : drop i (window_items s w) ≡ place_item s (get_or (filled w) i no_place) ∷ drop (i + 1) (window_items s w)
+    turn_at = window_at turn_inside ∙ ap (λ (p : Place). place_item s p ∷ drop (i + 1) (window_items s w)) (sym turn_place)
 
   -- the last one
   pub window_last : (last : Option Place) (n : ℕ) → n + 1 ≡ w.len → Lasts s (last_of (last_key s last) (window_items s w)) (Some (get_or w.places n no_place))

@@ -14,7 +14,6 @@ ghost use Rattle.windows.specs.Forms.{put, filled, Parts, place_key, place_item,
 use codec::Key;
 use definition::{CapacityKind, Fault, MAX_VALUE_LEN, SCAN_WINDOW};
 use region::Place;
-use std::cmp::Ordering;
 
 // What a pass keeps: the first `len` places, in key order.
 #[derive(Clone, Copy)]
@@ -26,14 +25,11 @@ pub struct ScanWindow {
 // ---- the tests of a key
 
 // Whether one key comes before another in the scan's direction, which is rising.
+#[tactic(auto, using(crate::proofs::Windows::rising_is))]
 fn before(a: &[u8], b: &[u8]) -> bool
     ensures { result ≡ rising a.now b.now }
 {
-    match Key::order(a, b) {
-        Ordering::Less => true,
-        Ordering::Equal => false,
-        Ordering::Greater => false,
-    }
+    Key::order(a, b).is_lt()
 }
 
 fn begins(prefix: &[u8], key: &[u8]) -> bool
@@ -96,13 +92,13 @@ impl ScanWindow {
         }
     }
 
-    // Where a key belongs: behind the keys that come before it. The index is the answer, so that it is counted.
+    // Where a key belongs: behind the keys that come before it.
     fn position(self, region: &[u8], key: &[u8]) -> usize
         requires { Sane region.now self }
         ensures { Parts rising key.now (window_items region.now self) result }
     {
-        for i in 0..self.len {
-            if !before(self.places[i].key(region), key) {
+        for (i, place) in self.places[..self.len].iter().enumerate() {
+            if !before(place.key(region), key) {
                 return i;
             }
         }
