@@ -2,7 +2,7 @@
 // too. Bytes stand in hex, and `-` stands for none.
 #![tactic(auto)]
 
-ghost use Rattle.std.specs.Prelude.{◌≡◌, true, ◌≤◌, length, IfSome};
+ghost use Rattle.std.specs.Prelude.{◌≡◌, true, ◌≤◌, length, IfSome, Ok};
 ghost use Rattle.definition.specs.Region.{good};
 ghost use Rattle.region.specs.Places.{Visit};
 
@@ -134,19 +134,26 @@ fn put_step(out: &mut Answers, step: Step) {
     out.put(b"\n");
 }
 
+// What an item call handed out, unless it failed, which is written at once; and where the item calls stand then.
+fn settled<T: Copy>(out: &mut Answers, answer: Result<(T, Step), Failure>) -> (Option<T>, Step)
+    ensures { IfSome result.0 (λ t. answer ≡ Ok (t, result.1)) }
+{
+    match answer {
+        Ok((handed, step)) => (Some(handed), step),
+        Err(Failure { fault, step }) => {
+            put_refused(out, fault);
+            (None, step)
+        }
+    }
+}
+
 // A store's, a removal's or an opening's answer: hands back where the item calls stand then.
 fn say_item(out: &mut Answers, name: &[u8], answer: Result<Step, Failure>) -> Step {
     out.put(name);
-    let step = match answer {
-        Ok(step) => {
-            out.put(b"ok");
-            step
-        }
-        Err(Failure { fault, step }) => {
-            put_refused(out, fault);
-            step
-        }
-    };
+    let (done, step) = settled(out, answer.map(|step| ((), step)));
+    if done.is_some() {
+        out.put(b"ok");
+    }
     put_step(out, step);
     step
 }
@@ -194,16 +201,13 @@ fn say_fetched(
     let mut key_bytes = [0; KEY_SIZE];
     let key_len = unhex(key, &mut key_bytes)?;
     out.put(b"fetch ");
-    let step = match items::fetch(region, script, &key_bytes[..key_len], step) {
-        Ok((value, step)) => {
-            put_found(out, value);
-            step
-        }
-        Err(Failure { fault, step }) => {
-            put_refused(out, fault);
-            step
-        }
-    };
+    let (value, step) = settled(
+        out,
+        items::fetch(region, script, &key_bytes[..key_len], step),
+    );
+    if let Some(value) = value {
+        put_found(out, value);
+    }
     put_step(out, step);
     Some(step)
 }
@@ -234,16 +238,10 @@ fn say_next(
     step: Step,
 ) -> Step {
     out.put(b"next ");
-    let step = match items::iterate_next(region, script, *place, step) {
-        Ok((met, step)) => {
-            *place = put_met(out, region, *place, met);
-            step
-        }
-        Err(Failure { fault, step }) => {
-            put_refused(out, fault);
-            step
-        }
-    };
+    let (met, step) = settled(out, items::iterate_next(region, script, *place, step));
+    if let Some(met) = met {
+        *place = put_met(out, region, *place, met);
+    }
     put_step(out, step);
     step
 }
