@@ -12,17 +12,14 @@ use Rattle.output.specs.Waiting.{Waiting, waits, add_byte, add_bytes, decimal_in
 
 -- ---- one byte
 
--- the buffer of an output, of which `used` bytes wait, stands for w
-module _ {out : Bytes} {used n : ℕ} {w : Waiting} (v : waits out used ≡ w) (l : length out ≡ n) (b : ℕ) where
-  pub added : used < n → waits (set out used b) (used + 1) ≡ add_byte w b
+module _ (out : Bytes) (used b : ℕ) where
+  pub added : used < length out → waits (set out used b) (used + 1) ≡ add_byte (waits out used) b
   unfolding add_byte
-  added h = sym (pick_yes _ _ (lt-ltb _ _ (omega arith))) ∙ ap (λ (x : Waiting). add_byte x b) v
+  added h = sym (pick_yes _ _ (lt-ltb _ _ h))
 
-  pub flushed : n ≤ used → waits w.buffer 0 ≡ add_byte w b
+  pub flushed : {r : ℕ} → length out ≤ used → r ≡ 0 → waits out r ≡ add_byte (waits out used) b
   unfolding add_byte
-  flushed h =
-      ap (λ (x : Waiting). waits x.buffer 0) (sym v) ∙ sym (pick_no _ _ (le-ltb _ _ (omega arith)))
-      ∙ ap (λ (x : Waiting). add_byte x b) v
+  flushed h e = ap (waits out) e ∙ sym (pick_no _ _ (le-ltb _ _ h))
 
 -- ---- bytes in turn
 

@@ -2,7 +2,7 @@
 // too. Bytes stand in hex, and `-` stands for none.
 #![tactic(auto)]
 
-ghost use Rattle.std.specs.Prelude.{◌≡◌, true, ◌≤◌, length, IfSome, Ok};
+ghost use Rattle.std.specs.Prelude.{◌≡◌, true, [], ◌≤◌, length, IfSome, IfNone, Ok};
 ghost use Rattle.definition.specs.Region.{good};
 ghost use Rattle.region.specs.Places.{Visit};
 
@@ -168,6 +168,7 @@ fn store(
     step: Step,
 ) -> Option<Result<Step, Failure>>
     requires { good region.old ≡ true }
+    ensures { IfNone result (region.new ≡ region.old) }
 {
     let mut key_bytes = [0; KEY_SIZE];
     let key_len = unhex(key, &mut key_bytes)?;
@@ -183,6 +184,7 @@ fn store(
 
 fn remove(region: &mut [u8], script: &[u8], key: &[u8], step: Step) -> Option<Result<Step, Failure>>
     requires { good region.old ≡ true }
+    ensures { IfNone result (region.new ≡ region.old) }
 {
     let mut key_bytes = [0; KEY_SIZE];
     let key_len = unhex(key, &mut key_bytes)?;
@@ -285,21 +287,23 @@ struct Bench {
     place: usize,
 }
 
-// Clauses see the region of the case.
+// Clauses see the region of the case, and how many codes its script has.
 impl Model for Bench {
     ghost use Rattle.std.specs.Prelude.{List, ℕ, ◌≤◌, take};
     ghost use Rattle.probe.specs.declared.TheConstants.{REGION_SIZE, SCRIPT_SIZE};
 
-    ghost Value = { List ℕ };
+    ghost Value = { List ℕ × ℕ };
 
-    ghost view = { λ b. take b.size b.region };
+    ghost view = { λ b. (take b.size b.region, b.codes) };
 
     ghost invariant = { λ b. (b.size ≤ REGION_SIZE) × (b.codes ≤ SCRIPT_SIZE) };
 }
 
 impl Bench {
     // Before the first line: an empty region and an empty script.
-    fn new(to: Stdout) -> Self {
+    fn new(to: Stdout) -> Self
+        ensures { result ≡ ([], 0) }
+    {
         Bench {
             out: Output::new(to),
             region: [255; REGION_SIZE],
@@ -312,7 +316,10 @@ impl Bench {
     }
 
     // A region of so many bytes: the given ones, and then 0xFF. The case starts anew, with an empty script.
-    fn set_region(&mut self, size: &[u8], given: &[u8]) -> Option<()> {
+    fn set_region(&mut self, size: &[u8], given: &[u8]) -> Option<()>
+        ensures none { IfNone result (self.new ≡ self.old) }
+        ensures script { IfSome result (λ _. self.new.1 ≡ 0) }
+    {
         let size = text::read_numeral(size)? as usize;
         let mut bytes = [0; REGION_SIZE];
         let count = unhex(given, &mut bytes)?;
@@ -329,7 +336,10 @@ impl Bench {
     }
 
     // A new script: the cut is lifted, and the count of calls starts again.
-    fn set_script(&mut self, given: &[u8]) -> Option<()> {
+    fn set_script(&mut self, given: &[u8]) -> Option<()>
+        ensures none { IfNone result (self.new ≡ self.old) }
+        ensures region { self.new.0 ≡ self.old.0 }
+    {
         let mut bytes = [0; SCRIPT_SIZE];
         self.codes = unhex(given, &mut bytes)?;
         self.script = bytes;
@@ -340,7 +350,7 @@ impl Bench {
     // ---- looks at the region
 
     fn is_good(&self) -> bool
-        ensures { result ≡ good self.now }
+        ensures { result ≡ good self.now.0 }
     {
         region::is_good(&self.region[..self.size])
     }
@@ -368,7 +378,9 @@ impl Bench {
 
     // What asks for a good image.
     fn run_on_image(&mut self, command: Command<'_>) -> Option<()>
-        requires { good self.old ≡ true }
+        requires { good self.old.0 ≡ true }
+        ensures none { IfNone result (self.new ≡ self.old) }
+        ensures script { self.new.1 ≡ self.old.1 }
     {
         let Bench {
             out,
@@ -401,7 +413,9 @@ impl Bench {
     }
 
     // A line, if it can be run: None is a bad line, of which nothing was done.
-    fn run(&mut self, line: &[u8]) -> Option<()> {
+    fn run(&mut self, line: &[u8]) -> Option<()>
+        ensures { IfNone result (self.new ≡ self.old) }
+    {
         let (name, words) = text::next_word(line);
         let (first, second) = text::two_words(words)?;
         let command = command_of(name, first, second)?;
@@ -421,9 +435,16 @@ impl Bench {
         Some(())
     }
 
+    // The answer to a line that cannot be run.
+    fn bad_line(&mut self)
+        ensures { self.new ≡ self.old }
+    {
+        self.out.put(b"bad line\n");
+    }
+
     fn answer(&mut self, line: Option<&[u8]>) {
         if line.and_then(|line| self.run(line)).is_none() {
-            self.out.put(b"bad line\n");
+            self.bad_line();
         }
     }
 }

@@ -12,7 +12,7 @@ ghost use Rattle.definition.specs.Recovery.{is_journal, journal_keys};
 ghost use Rattle.region.specs.Places.{end_of, Visit, Goes, Trusts, place_of, Short, span_found, key_at, value_at, first_of};
 ghost use Rattle.prints.specs.Prints.{most_classes, table_size};
 ghost use Rattle.region.specs.Classes.{Tried, DistinctIn};
-ghost use Rattle.region.specs.Changes.{Surveyed, Removes, Stores};
+ghost use Rattle.region.specs.Changes.{Counted, Surveyed, Removes, Stores};
 
 use definition::{
     ERASED, HEAD_SIZE, ITEM_KIND, JOURNAL_KEY_LEN, JOURNAL_TAG, KEY_LEN_AT, RESERVED_PREFIX, Space,
@@ -144,6 +144,13 @@ pub fn records_of<const WHOLE: bool>(region: &[u8]) -> Records<'_, WHOLE>
     ensures { (result.region.now ≡ region.now) × (result.at ≡ 0) }
 {
     Records { region, at: 0 }
+}
+
+// The records of a whole region from a place on.
+fn whole_records(region: &[u8], at: usize) -> Records<'_, true>
+    ensures { (result.region.now ≡ region.now) × (result.at ≡ at) }
+{
+    Records { region, at }
 }
 
 // ---- the item with a key
@@ -282,25 +289,42 @@ pub fn space(region: &[u8]) -> Space
     Space { used, free, takes }
 }
 
-// What the region holds, and where the record with a key stands: one walk for both.
+// The same, where a walk over a whole region has come to a place and has counted so many user records.
+fn space_from(region: &[u8], from: usize, counted: usize) -> Space
+    requires { Counted region.now from counted }
+    ensures { result ≡ space_of region.now }
+{
+    let mut used = from;
+    let mut takes = counted;
+    for place in whole_records(region, from) {
+        used = place.end();
+        takes += marks::user_count(place.key(region));
+    }
+    let free = region.len() - used;
+    Space { used, free, takes }
+}
+
+// What the region holds, and where the record with a key stands: one walk for both, which compares no key behind it.
 fn survey(region: &[u8], key: &[u8]) -> Seen
     requires { whole region.now ≡ true }
     ensures { Surveyed region.now key.now result }
 {
     let mut used: usize = 0;
     let mut takes: usize = 0;
-    let mut found = None;
     for place in records_of::<true>(region) {
         used = place.end();
         takes += marks::user_count(place.key(region));
-        if found.is_none() && slices::same(place.key(region), key) {
-            found = Some(place);
+        if slices::same(place.key(region), key) {
+            return Seen {
+                space: space_from(region, used, takes),
+                found: Some(place),
+            };
         }
     }
     let free = region.len() - used;
     Seen {
         space: Space { used, free, takes },
-        found,
+        found: None,
     }
 }
 

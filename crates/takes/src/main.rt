@@ -2,7 +2,7 @@
 // standard output.
 #![tactic(auto)]
 
-ghost use Rattle.std.specs.Prelude.{◌≤◌, length, IfSome};
+ghost use Rattle.std.specs.Prelude.{◌≡◌, ◌≤◌, length, None, IfSome, IfNone};
 
 use definition::{
     Answer, DELETE_KIND, Fault, GetAnswer, Health, PUT_KIND, Reply, ScanAnswer, ScanEnd, Scanned,
@@ -277,22 +277,24 @@ struct Console {
     state: State,
 }
 
-// The region and the script that are in use lie in the buffers for them. Clauses ask no more of a console, and see the
-// number of codes.
+// The region and the script that are in use lie in the buffers for them. Clauses see the size of the region, where a
+// store is mounted, and the number of codes.
 impl Model for Console {
-    ghost use Rattle.std.specs.Prelude.{ℕ, ◌≤◌, IfSome};
+    ghost use Rattle.std.specs.Prelude.{Option, ℕ, ◌≤◌, IfSome};
     ghost use Rattle.takes.specs.declared.TheConstants.{REGION_SIZE, SCRIPT_SIZE};
 
-    ghost Value = { ℕ };
+    ghost Value = { Option ℕ × ℕ };
 
-    ghost view = { λ c. c.codes };
+    ghost view = { λ c. (c.mounted, c.codes) };
 
     ghost invariant = { λ c. IfSome c.mounted (λ size. size ≤ REGION_SIZE) × (c.codes ≤ SCRIPT_SIZE) };
 }
 
 impl Console {
     // Before the first line: nothing is mounted, and the script is empty.
-    fn new(to: Stdout) -> Self {
+    fn new(to: Stdout) -> Self
+        ensures { result ≡ (None, 0) }
+    {
         let space = Space {
             used: 0,
             free: 0,
@@ -315,7 +317,10 @@ impl Console {
     }
 
     // Mounts erased bytes at address 0; the script goes on where it stands.
-    fn mount(&mut self, size: usize) -> Option<()> {
+    fn mount(&mut self, size: usize) -> Option<()>
+        ensures none { IfNone result (self.new ≡ self.old) }
+        ensures codes { self.new.1 ≡ self.old.1 }
+    {
         if REGION_SIZE < size {
             return None;
         }
@@ -343,7 +348,10 @@ impl Console {
     }
 
     // A new script, whose place is its start. A cut stands until a mount.
-    fn set_script(&mut self, words: &[u8]) -> Option<()> {
+    fn set_script(&mut self, words: &[u8]) -> Option<()>
+        ensures none { IfNone result (self.new ≡ self.old) }
+        ensures region { self.new.0 ≡ self.old.0 }
+    {
         let Console { script, work, .. } = self;
         let count = read_codes(words, work)?;
         script.get_mut(..count)?.copy_from_slice(&work[..count]);
@@ -353,7 +361,9 @@ impl Console {
     }
 
     // A call on the store that is mounted.
-    fn call(&mut self, command: Command<'_>) -> Option<()> {
+    fn call(&mut self, command: Command<'_>) -> Option<()>
+        ensures { self.new ≡ self.old }
+    {
         let size = self.mounted?;
         let Console {
             out,
@@ -392,7 +402,9 @@ impl Console {
     }
 
     // A line, if it can be run: None is a bad line, of which nothing was done.
-    fn run(&mut self, line: &[u8]) -> Option<()> {
+    fn run(&mut self, line: &[u8]) -> Option<()>
+        ensures { IfNone result (self.new ≡ self.old) }
+    {
         match command_of(line)? {
             Command::Mount(size) => self.mount(size),
             Command::Script(words) => self.set_script(words),
@@ -400,14 +412,28 @@ impl Console {
         }
     }
 
+    // The answer to a line that cannot be run.
+    fn bad_line(&mut self)
+        ensures { self.new ≡ self.old }
+    {
+        self.out.put(b"bad line\n");
+    }
+
+    // Writes what waits. The error is the write's and no other, and changes no more than a write that is done.
+    fn show(&mut self) -> io::Result<()>
+        ensures { self.new ≡ self.old }
+    {
+        self.out.show()
+    }
+
     // A line as it came, and its answer written at once: whoever typed it, or sent it through a pipe, may wait for that
     // before the next line. An error is that of the write at the line's end and no other: the line's call is done by
     // then, and all but the answers is as it left them.
     fn answer(&mut self, line: Option<&[u8]>) -> io::Result<()> {
         if line.and_then(|line| self.run(line)).is_none() {
-            self.out.put(b"bad line\n");
+            self.bad_line();
         }
-        self.out.show()
+        self.show()
     }
 }
 

@@ -1,10 +1,10 @@
 // What the console programs read: the lines of standard input, the words of a line, and numbers in text.
 #![tactic(auto)]
 
-ghost use Rattle.std.specs.Prelude.{◌≡◌, ◌+◌, ◌-◌, ◌≤◌, ◌<◌, ◌==◌, [], length, not, position, MatchOption};
+ghost use Rattle.std.specs.Prelude.{◌≡◌, ◌+◌, ◌-◌, ◌≤◌, ◌<◌, ◌==◌, [], length, not, position, MatchOption, IfSome};
 ghost use Rattle.text.specs.Words.{word_of, rest_of, IsNextWord, IsTwoWords};
 ghost use Rattle.text.specs.Numerals.{numeral_of, Digit, pair_of};
-ghost use Rattle.text.specs.Lines.{Appends, whole, last_of, InLine};
+ghost use Rattle.text.specs.Lines.{Appends, Holds, whole, last_of, InLine};
 
 use std::io::Read;
 use std::marker::Model;
@@ -117,6 +117,14 @@ pub fn append(buffer: &mut [u8], used: usize, bytes: &[u8]) -> Option<usize>
 
 // ---- the input in lines
 
+// Holds some more bytes of a line, if they fit behind those that are held: a line that was once too long stays so.
+fn hold(line: &mut [u8], held: Option<usize>, part: &[u8]) -> Option<usize>
+    requires { IfSome held (λ len. len ≤ length line.old) }
+    ensures { Holds line.old held part.now line.new result }
+{
+    append(line, held?, part)
+}
+
 // How a line came: whole, as so many bytes; longer than the line buffer, and then all of it is read and none is kept;
 // or not at all, since the input is over.
 #[derive(Clone, Copy)]
@@ -146,13 +154,63 @@ fn last(held: Option<usize>) -> Line
     }
 }
 
+// The part of an input buffer that is read and not yet handed out.
+#[derive(Clone, Copy, Debug, PartialEq, Eq)]
+pub struct Unread {
+    pub from: usize,
+    pub to: usize,
+}
+
+// Reads more bytes to the front of the input buffer, and hands back how many came: none at the end of the input, as
+// which a read that fails counts too.
+fn fill(reader: &mut impl Read, input: &mut [u8]) -> usize
+    ensures { result ≤ length input.new }
+{
+    reader.read(input).unwrap_or(0)
+}
+
+// The next line of the input, without its newline, and the part that is unread behind it. Any byte but a newline may
+// stand in it. A read that fails counts as the end of the input.
+pub fn read_line(
+    reader: &mut impl Read,
+    input: &mut [u8],
+    unread: Unread,
+    line: &mut [u8],
+) -> (Line, Unread)
+    requires { (unread.from ≤ unread.to) × (unread.to ≤ length input.old) }
+    ensures inside { InLine line.new result.0 }
+    ensures order { result.1.from ≤ result.1.to }
+    ensures within { result.1.to ≤ length input.new }
+{
+    let mut unread = unread;
+    let mut held = Some(0);
+    // A proved loop has to end, and nothing says that the input does: no run takes so many turns.
+    for _ in 0..u64::MAX {
+        let waiting = &input[unread.from..unread.to];
+        let end = find(waiting, LINE_END);
+        let part = &waiting[..end.unwrap_or(waiting.len())];
+        held = hold(line, held, part);
+        if let Some(end) = end {
+            unread.from += end + 1;
+            return (ended(held), unread);
+        }
+        unread = Unread {
+            from: 0,
+            to: fill(reader, input),
+        };
+        if unread.to == 0 {
+            return (last(held), unread);
+        }
+    }
+    (last(held), unread)
+}
+
 // An input, and the bytes of it that are read and not yet handed out: a part of a buffer.
 #[derive(Drop)]
 pub struct Input<R, const N: usize> {
     reader: R,
     bytes: [u8; N],
-    from: usize,
-    to: usize,
+    unread: Unread,
 }
 
 // Clauses see the bytes that wait.
@@ -161,9 +219,9 @@ impl<R, const N: usize> Model for Input<R, N> {
 
     ghost Value = { List ℕ };
 
-    ghost view = { λ i. take (i.to - i.from) (drop i.from i.bytes) };
+    ghost view = { λ i. take (i.unread.to - i.unread.from) (drop i.unread.from i.bytes) };
 
-    ghost invariant = { λ i. (i.from ≤ i.to) × (i.to ≤ N) };
+    ghost invariant = { λ i. (i.unread.from ≤ i.unread.to) × (i.unread.to ≤ N) };
 }
 
 impl<R: Read, const N: usize> Input<R, N> {
@@ -174,40 +232,17 @@ impl<R: Read, const N: usize> Input<R, N> {
         Input {
             reader,
             bytes: [0; N],
-            from: 0,
-            to: 0,
+            unread: Unread { from: 0, to: 0 },
         }
     }
 
-    // Reads more bytes, all that wait then: none at the end of the input, as which a read that fails counts too.
-    fn fill(&mut self) {
-        self.from = 0;
-        self.to = self.reader.read(&mut self.bytes).unwrap_or(0);
-    }
-
-    // The next line of the input, without its newline. Any byte but that may stand in it.
+    // The next line of the input, without its newline. Any byte but that may stand in it. A read that fails
+    // counts as the end of the input.
     pub fn read_line(&mut self, line: &mut [u8]) -> Line
         ensures { InLine line.new result }
     {
-        let mut held = Some(0);
-        // A proved loop has to end, and nothing says that the input does: no run takes so many turns.
-        for _ in 0..u64::MAX {
-            let all = &self.bytes[..];
-            let waiting = &all[self.from..self.to];
-            let end = find(waiting, LINE_END);
-            let part = &waiting[..end.unwrap_or(waiting.len())];
-            if let Some(len) = held {
-                held = append(line, len, part);
-            }
-            if let Some(end) = end {
-                self.from += end + 1;
-                return ended(held);
-            }
-            self.fill();
-            if self.to == 0 {
-                return last(held);
-            }
-        }
-        last(held)
+        let (line, unread) = read_line(&mut self.reader, &mut self.bytes, self.unread, line);
+        self.unread = unread;
+        line
     }
 }

@@ -1,17 +1,15 @@
 -- Places and windows: the items that stand there, an index at a time, and a place put into a window.
 use mathlib.Core.Path.{◌≡◌, refl, sym, ap, ap₂, ◌∙◌, subst}
 use mathlib.Core.Bool.{Bool, true, false}
-use mathlib.Core.List.{List, [], ◌∷◌, ◌++◌}
-use Prim.Native.Nat.{ℕ, zero, suc, ◌+◌, ◌-◌, ◌≤◌, ◌<◌, min}
-use Rattle.std.specs.List.{copy_within}
-use Rattle.std.proofs.lemmas.List.Edits.{length-paste, take-paste}
+use mathlib.Core.List.{List, [], ◌∷◌, ◌++◌, append_assoc}
+use Prim.Native.Nat.{ℕ, zero, suc, ◌+◌, ◌≤◌, ◌<◌}
 use native.Mathlib.Numerals.{add-one}
 use native.Mathlib.Omega.{arith}
-use borrow.Author.Tests.{lt-ltb, le-ltb, ltb-true, ltb-false}
+use borrow.Author.Tests.{lt-ltb, le-ltb}
 use lib.Pointwise.{pointwise}
-use lib.Dec.{eqb, ltb}
-use lib.ListN.{length, get_or, take, drop, set, length-take, length-drop, drop_of_length-le}
-use lib.Seq.{drop-cons, take-take, take_all, get_or-take, length-take-le}
+use lib.Dec.{eqb}
+use lib.ListN.{length, get_or, take, drop, set, length-append, length-take, length-drop, length-set, drop_of_length-le}
+use lib.Seq.{drop-cons, drop-drop, take-take, take_all, take_at, take-suc-set, take-set-lt, drop-set-lt, get_or-take, length-take-le}
 use Rattle.definition.specs.Tools.{Bytes, pick}
 use Rattle.definition.specs.Region.{Item, item, size, span, span_of, record_of}
 use Rattle.definition.specs.Codec.{order, reserved, value_limit, long_value}
@@ -321,56 +319,71 @@ module _ {before : Direction} {s key : Bytes} {w : ScanWindow} {i : ℕ} (g : Sa
 
 -- ---- a place put in
 
-module _ {A : Type 0} (x : A) where
-  set_behind : (l : List A) (at : ℕ) (t : List A) → at < length l → set (take (suc at) l ++ t) at x ≡ take at l ++ (x ∷ t)
-  set_behind [] at t h = absurd (omega arith)
-  set_behind (a ∷ l) zero t h = refl
-  set_behind (a ∷ l) (suc at) t h = ap (λ (r : List A). a ∷ r) (set_behind l at t (omega arith))
+-- those from `at` on have moved up as far as i, and the one that stood there is carried
+pub record Shifted {A : Type 0} (at : ℕ) (x : A) (start : List A) (len : ℕ) (now : List A) (carried : A) (i : ℕ) : Type 0 where
+  pub from : at ≤ i
+  pub to : i ≤ len
+  pub eight : length now ≡ window_size
+  pub is : take i now ++ (carried ∷ drop i (take len start)) ≡ put at x (take len start)
+  pub rest : drop i (take len now) ≡ drop i (take len start)
 
-  -- a window with room for one more, and one that is full
-  put_room : (l : List A) (at k len w : ℕ) → length l ≡ w → at + k + 1 ≡ w → at ≤ len → len < w
-      → take (suc len) (take at l ++ (x ∷ take k (drop at l))) ≡ take w (put at x (take len l))
-  put_room l at k len zero e f g h = absurd (omega arith)
-  put_room l zero k len (suc w) e f g h =
-      ap (λ (r : List A). x ∷ r)
-      (take-take len k l (omega arith) ∙ sym (take_all w (take len l) (let q = length-take-le len l (omega arith) in omega arith)))
-  put_room [] (suc at) k len (suc w) e f g h = absurd (omega arith)
-  put_room (a ∷ l) (suc at) k zero (suc w) e f g h = absurd (omega arith)
-  put_room (a ∷ l) (suc at) k (suc len) (suc w) e f g h =
-      ap (λ (r : List A). a ∷ r) (put_room l at k len w (omega arith) (omega arith) (omega arith) (omega arith))
+pub shifted_none : {A : Type 0} (at : ℕ) (x : A) (start : List A) (len : ℕ) → length start ≡ window_size → at ≤ len → Shifted at x start len start x at
+shifted_none at x start len e l =
+    record {
+      from = omega arith;
+      to = l;
+      eight = e;
+      is = ap (λ (a : List _). a ++ (x ∷ drop at (take len start))) (sym (take-take at len start l));
+      rest = refl;
+    }
 
-  put_full : (l : List A) (at k w : ℕ) → length l ≡ w → at + k + 1 ≡ w → take w (take at l ++ (x ∷ take k (drop at l))) ≡ take w (put at x l)
-  put_full l at k zero e f = absurd (omega arith)
-  put_full l zero k (suc w) e f =
-      ap (λ (r : List A). x ∷ r) (take-take w k l (omega arith))
-  put_full [] (suc at) k (suc w) e f = absurd (omega arith)
-  put_full (a ∷ l) (suc at) k (suc w) e f = ap (λ (r : List A). a ∷ r) (put_full l at k w (omega arith) (omega arith))
+module _ {A : Type 0} {at : ℕ} {x : A} {start : List A} {len : ℕ} {now : List A} {carried : A} {i : ℕ} (m : len ≤ window_size) (h : Shifted at x start len now carried i) where
+  pub shifted_eight : length (set now i carried) ≡ window_size
+  shifted_eight = length-set now i carried ∙ h.eight
 
-module _ {A : Type 0} (x : A) (start : List A) (at len n : ℕ) (e : length start ≡ window_size) (m : len ≤ window_size) (l : at ≤ len) (r : at ≡ window_size → ⊥) where
-  moved : set (copy_within start at 7 (at + 1)) at x ≡ take at start ++ (x ∷ take (7 - at) (drop at start))
-  moved =
-      let h : at < 8 = omega (arith, r) in
-      let ld : length (drop at start) ≡ 8 - at = simp length-drop (omega arith) in
-      let lp : length (copy_within start at 7 (at + 1)) ≡ 8 = length-paste start (at + 1) (drop at start) (7 - at) (omega arith) (omega arith) ∙ e in
-      let q : at + 1 + (7 - at) ≡ 8 = omega arith in
-      let f : copy_within start at 7 (at + 1) ≡ take (suc at) start ++ take (7 - at) (drop at start) =
-      sym (take_all (at + 1 + (7 - at)) (copy_within start at 7 (at + 1)) (omega arith))
-      ∙ take-paste start (at + 1) (drop at start) (7 - at) (omega arith) (omega arith)
-      ∙ ap (λ (i : ℕ). take i start ++ take (7 - at) (drop at start)) (add-one at) in
-      ap (λ (t : List A). set t at x) f ∙ set_behind x start at (take (7 - at) (drop at start)) (omega arith)
+  pub shifted_on : (d : A) → i < len → Shifted at x start len (set now i carried) (get_or now i d) (i + 1)
+  shifted_on d l =
+      let f = h.from in
+      let e8 = h.eight in
+      let ln : i < length now = omega arith in
+      let lt : length (take len now) ≡ len = length-take-le len now (omega arith) in
+      let old : drop i (take len start) ≡ get_or now i d ∷ drop (suc i) (take len now) =
+      sym h.rest ∙ drop-cons (take len now) i d (omega arith) ∙ ap (λ (a : A). a ∷ drop (suc i) (take len now)) (get_or-take len now i d l) in
+      let rest : drop (suc i) (take len now) ≡ drop (suc i) (take len start) =
+      ap (λ (n : ℕ). drop n (take len now)) (sym (add-one i)) ∙ sym (drop-drop 1 i (take len now)) ∙ ap (drop 1) h.rest
+      ∙ drop-drop 1 i (take len start) ∙ ap (λ (n : ℕ). drop n (take len start)) (add-one i) in
+      record {
+        from = omega arith;
+        to = omega arith;
+        eight = shifted_eight;
+        is = rw (add-one, take-suc-set now i carried ln)
+            (append_assoc (take i now) (carried ∷ []) (get_or now i d ∷ drop (suc i) (take len start))
+            ∙ ap (λ (t : List A). take i now ++ (carried ∷ t)) (ap (λ (t : List A). get_or now i d ∷ t) (sym rest) ∙ sym old)
+            ∙ h.is);
+        rest = rw add-one (ap (drop (suc i)) (take-set-lt len now i carried l) ∙ drop-set-lt (suc i) (take len now) i carried (omega arith) ∙ rest);
+      }
 
-  pub put_moved : n ≡ min (len + 1) 8 → take n (set (copy_within start at 7 (at + 1)) at x) ≡ take window_size (put at x (take len start))
-  put_moved en =
-      ap (take n) moved ∙ bool (ltb len 8)
-      (λ t.
-      let h : len < 8 = ltb-true _ _ t in
-      let q : n ≡ suc len = omega arith in
-      ap (λ (i : ℕ). take i (take at start ++ (x ∷ take (7 - at) (drop at start)))) q ∙ put_room x start at (7 - at) len 8 e (omega (arith, r)) l h)
-      (λ f.
-      let h : 8 ≤ len = ltb-false _ _ f in
-      let q : n ≡ 8 = omega arith in
-      ap (λ (i : ℕ). take i (take at start ++ (x ∷ take (7 - at) (drop at start)))) q ∙ put_full x start at (7 - at) 8 e (omega (arith, r))
-      ∙ ap (λ (t : List A). take 8 (put at x t)) (sym (take_all len start (omega arith))))
+  nothing_left : len ≤ i → drop i (take len start) ≡ []
+  nothing_left l = drop_of_length-le (take len start) {i = i} (simp length-take (omega arith))
+
+  all_put : len ≤ i → put at x (take len start) ≡ take i now ++ (carried ∷ [])
+  all_put l = sym h.is ∙ ap (λ (t : List A). take i now ++ (carried ∷ t)) (nothing_left l)
+
+  front : length (take i now) ≡ i
+  front = let t = h.to in let e = h.eight in length-take-le i now (omega arith)
+
+  pub shifted_room : len ≤ i → i < window_size → take (i + 1) (set now i carried) ≡ take window_size (put at x (take len start))
+  shifted_room l r =
+      let e8 = h.eight in
+      rw (add-one, take-suc-set now i carried (omega arith))
+      (sym (ap (take window_size) (all_put l)
+      ∙ take_all window_size (take i now ++ (carried ∷ [])) (let f = front in simp length-append (omega arith))))
+
+  pub shifted_full : len ≤ i → window_size ≤ i → take i now ≡ take window_size (put at x (take len start))
+  shifted_full l r =
+      let t = h.to in
+      let e : i ≡ window_size = omega arith in
+      sym (ap (take window_size) (all_put l) ∙ take_at (take i now) (carried ∷ []) window_size (front ∙ e))
 
 module _ {before : Direction} {s : Bytes} {w r : ScanWindow} {p : Place} {k : Bytes} {n : ℕ} (g : Sane s w) (h : Held s p) (ek : k ≡ place_key s p) (at : Parts before k (window_items s w) n) where
   pub offered : (length r.places ≡ window_size) × (r.len ≤ window_size) × (filled r ≡ take window_size (put n p (filled w)))

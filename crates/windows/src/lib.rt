@@ -35,6 +35,16 @@ fn before(a: &[u8], b: &[u8]) -> bool
 fn begins(prefix: &[u8], key: &[u8]) -> bool
     ensures { result ≡ Scan.begins prefix.now key.now }
 {
+    // The first byte mostly decides, and is compared without a call.
+    if prefix.is_empty() {
+        return true;
+    }
+    if key.is_empty() {
+        return false;
+    }
+    if prefix[0] != key[0] {
+        return false;
+    }
     key.starts_with(prefix)
 }
 
@@ -111,16 +121,20 @@ impl ScanWindow {
         ensures { (length result.places ≡ Scan.window_size) × (result.len ≤ Scan.window_size) × (filled result
             ≡ take Scan.window_size (put at place (filled self))) }
     {
-        if at == SCAN_WINDOW {
-            return self;
-        }
+        // No copy_within, which asks a host of the library for `memmove`: each place drops the one that it takes over.
         let mut places = self.places;
-        places.copy_within(at..SCAN_WINDOW - 1, at + 1);
-        places[at] = place;
-        ScanWindow {
-            places,
-            len: (self.len + 1).min(SCAN_WINDOW),
+        let mut carried = place;
+        for i in at..self.len {
+            let held = places[i];
+            places[i] = carried;
+            carried = held;
         }
+        let mut len = self.len;
+        if len < SCAN_WINDOW {
+            places[len] = carried;
+            len += 1;
+        }
+        ScanWindow { places, len }
     }
 
     // Puts a place where its key belongs.
